@@ -1,0 +1,107 @@
+//! The three traits of the outside: a source of bytes, a sink of bytes, and a host with files and one text.
+//! They say what each answer means, and nothing of where the bytes come from or go.
+ghost use Rattle.std.specs.Prelude.{◌≡◌, ◌+◌, ◌<◌, ◌≤◌, ℕ, length, take, IfOk, IfErr, OnOk, OnErr, IsErrOf, option_map};
+ghost use Rattle.aplc_io.specs.Outside.{SourceState, SinkState, HostState, sink_with, SinkFails, SourceGives, SourceFails, IsAtEnd, IsFile, FetchStops, text_begun, TextNotBegun, text_with, TextFails};
+
+use std::alloc::Global;
+use thiserror::Error;
+
+/// A call met a fault, and its object counted it.
+#[derive(Clone, Copy, Debug, PartialEq, Eq)]
+pub struct Failed;
+
+/// Bytes to read. The count of faults never falls: each answer keeps it, and `Failed` alone may raise it.
+pub trait Source {
+    /// The bytes that are left, where they are told, and the faults so far.
+    ghost state: { Self → SourceState };
+
+    /// Reads the next bytes into the front of `buf`, and tells how many. None is the end of the input.
+    ///
+    /// `Failed` comes only where the count of faults rose or stands at its last value, and takes no byte.
+    fn read(&mut self, buf: &mut [u8]) -> Result<usize, Failed>
+        requires { 0 < length buf.old }
+        ensures bound { IfOk result (λ n. n ≤ length buf.new) }
+        ensures gives { IfOk result
+            (λ n. SourceGives (take n buf.new) (state self.old) (state self.new)) }
+        ensures end { IfOk result (λ n. n ≡ 0 → IsAtEnd (state self.new)) }
+        ensures fails { OnErr result (SourceFails (state self.old) (state self.new)) };
+}
+
+/// A place to write bytes to. The count of faults never falls: each answer keeps it, and `Failed` alone may
+/// raise it.
+pub trait Sink {
+    /// The bytes that were written, where they are told, and the faults so far.
+    ghost state: { Self → SinkState };
+
+    /// Writes some of the bytes from the front, at least one, and tells how many.
+    ///
+    /// `Failed` comes only where the count of faults rose or stands at its last value, and writes nothing.
+    fn write(&mut self, bytes: &[u8]) -> Result<usize, Failed>
+        requires { 0 < length bytes.now }
+        ensures bound { IfOk result (λ n. (0 < n) × (n ≤ length bytes.now)) }
+        ensures takes { IfOk result
+            (λ n. state self.new ≡ sink_with (state self.old) (take n bytes.now)) }
+        ensures fails { OnErr result (SinkFails (state self.old) (state self.new)) };
+}
+
+/// Why a file was not fetched.
+#[derive(Debug, Drop, Error)]
+pub enum FetchFault {
+    /// The host met a fault, or has no file of the name.
+    #[error("the file could not be read")]
+    Failed,
+    /// The file has more bytes than were asked for.
+    #[error("the file is too long")]
+    TooLong,
+    /// No memory was left for the bytes.
+    #[error("no memory is left")]
+    Memory,
+}
+
+/// Files to fetch, and one text to hand over. It counts the faults of `fetch`, and those of the text.
+/// Neither count falls: each answer keeps both, and a fault alone may raise one.
+pub trait Host {
+    /// The files by name, the text and its target, where they are told, and the faults so far.
+    ghost state: { Self → HostState };
+
+    /// How many bytes of a file the last `fetch` took.
+    ghost taken: { Self → ℕ };
+
+    /// The bytes of a file, at most `limit` of them. It takes at most `limit + 1` bytes of the file.
+    ///
+    /// `TooLong` comes where the file has more than `limit` bytes, as the last byte taken shows. `Failed` comes
+    /// only where the count of fetch faults rose or stands at its last value, or where the files are told and
+    /// none has the name. Nothing but that count changes.
+    fn fetch(&mut self, alloc: Global, name: &str, limit: u64) -> Result<Vec<u8>, FetchFault>
+        ensures bound { IfOk result (λ v. length v.items ≤ limit) }
+        ensures bytes { IfOk result (λ v. IsFile (state self.old) name.now v.items) }
+        ensures kept { OnOk result (state self.new ≡ state self.old) }
+        ensures stops { IfErr result
+            (λ fault. FetchStops fault name.now limit (state self.old) (state self.new)) }
+        ensures whole { IfOk result (λ v. taken self.new ≡ length v.items) }
+        ensures long { IsErrOf result FetchFault.TooLong → taken self.new ≡ limit + 1 }
+        ensures within { taken self.new ≤ limit + 1 };
+
+    /// Begins the text anew, and says where it goes: to the file `name`, or, without a name, to the standard
+    /// output, or nowhere where `run` is true. Without a call of this a text goes to the standard output.
+    ///
+    /// An Ok makes the target: whether a name was given, its first 255 bytes, and `run`. Nothing else changes
+    /// it, and there is none before. The text is empty after `Failed` too, which comes only where the count of
+    /// text faults rose or stands at its last value.
+    fn text_to(&mut self, name: Option<&str>, run: bool) -> Result<(), Failed>
+        ensures begun { OnOk result (state self.new ≡ text_begun (state self.old)
+            (option_map (λ s. s.now) name.entry) run) }
+        ensures fails { OnErr result (TextNotBegun (state self.old) (state self.new)) }
+        ensures no_fetch { taken self.new ≡ taken self.old };
+
+    /// Writes some bytes of the text from the front, at least one, and tells how many.
+    ///
+    /// `Failed` comes only where the count of text faults rose or stands at its last value, and writes nothing.
+    fn put_text(&mut self, bytes: &[u8]) -> Result<usize, Failed>
+        requires { 0 < length bytes.now }
+        ensures bound { IfOk result (λ n. (0 < n) × (n ≤ length bytes.now)) }
+        ensures takes { IfOk result
+            (λ n. state self.new ≡ text_with (state self.old) (take n bytes.now)) }
+        ensures fails { OnErr result (TextFails (state self.old) (state self.new)) }
+        ensures no_fetch { taken self.new ≡ taken self.old };
+}

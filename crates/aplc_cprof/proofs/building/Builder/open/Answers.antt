@@ -1,0 +1,12 @@
+use Rattle.std.proofs.Common.{◌≡◌, [], ◌∷◌, ◌++◌, ◌∙◌, subst}
+use Rattle.aplc_cprof.specs.Blocks.{Blocks}
+use Rattle.aplc_cprof.proofs.Seams.{opened}
+use Rattle.aplc_cprof.proofs.building.Builder.open.Goals as goal
+
+pub returns-clause-ok : goal.returns-clause-ok
+returns-clause-ok c =
+    let old : Blocks = record { outer = c.self.inside.outer; inner = c.self.inside.inner; ints = c.self.inside.ints; bufs = c.self.inside.bufs } in
+    let new : Blocks = record old { outer = c.set.new.self; inner = c.replace-inner.new.dest } in
+    subst (λ (b : Blocks). new ≡ record b { outer = b.outer ++ b.inner ∷ []; inner = [] }) c.self.view_is
+    (opened old c.push.new.self c.set.new.self c.new.result c.replace-inner.result c.replace-inner.new.dest c.len-around.result
+    c.len-around.ensures c.in_ok-push.ensures.ok c.set.ensures c.replace-inner.ensures.value (c.replace-inner.ensures.after ∙ c.new-2.ensures))

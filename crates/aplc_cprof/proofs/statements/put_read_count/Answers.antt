@@ -1,0 +1,6 @@
+use Rattle.std.proofs.Common.{append_assoc}
+use Rattle.aplc_cprof.proofs.Equations.{texts}
+use Rattle.aplc_cprof.proofs.statements.put_read_count.Goals as goal
+
+pub returns : goal.returns
+returns c = simp texts (simp (c.in_ok-put_int.ensures, append_assoc) at c.put.ensures)

@@ -1,0 +1,21 @@
+//! The C profile: its programs, their text, the machine that gives the text a meaning, and a builder of functions.
+//! It must not know of APL, nor how a text is read back or carried out.
+#![tactic(auto)]
+
+mod building;
+mod expressions;
+mod laws;
+mod list;
+mod preamble;
+mod printing;
+mod statements;
+mod syntax;
+#[cfg(test)]
+mod tests;
+
+pub use building::Builder;
+pub use laws::one_program;
+pub use list::List;
+pub use preamble::{preamble_bytes, tail_bytes};
+pub use printing::print;
+pub use syntax::{Arm, Buf, CExpr, CFunction, CProgram, CStmt, Checked, Int, Op, StuckCause};

@@ -1,6 +1,6 @@
 -- What the whole of a call says of each status.
-use Rattle.std.proofs.Common.{◌≡◌, ◌⊎◌, ◌≤◌, arith, ℕ, List, [], Option, None, Some, Result, Ok, Err, refl, sym, ap, subst, ◌∙◌, inl, inr, ⊎_elim, false, length}
-use Rattle.aplc_io.specs.Outside.{SourceState, SinkState, HostState, target_of, Rose, IsMissing, sink_with, with}
+use Rattle.std.proofs.Common.{◌≡◌, ◌≤◌, arith, ℕ, List, Option, None, Some, Result, Ok, Err, refl, sym, ap, subst, ◌∙◌, inl, inr, ⊎_elim, false}
+use Rattle.aplc_io.specs.Outside.{SinkState, HostState, target_of, Rose, IsMissing, sink_with}
 use Rattle.aplc_io.specs.Parts.{PartWritten, Tried}
 use Rattle.aplc_io.proofs.Sent.{sink_with-nil}
 use Rattle.aplc_cli.specs.declared.refusal.Refusal.{Refusal}
@@ -9,7 +9,7 @@ use Rattle.aplc_cli.specs.declared.status.Stop.TheVariants as stop
 use Rattle.aplc_cli.specs.declared.status.Status.{Status}
 use Rattle.aplc_cli.specs.declared.status.Status.TheVariants as status
 use Rattle.aplc_cli.specs.Compiled.{refusal}
-use Rattle.aplc_cli.specs.Call.{Command, Sent, outcome, outcome_of, Outside, host_after, Matter, Meets, FetchFault, TextFault, Works, Reports, Ends, line, refusal_line, status_of, IsMissingFile, HasReadCause, HasWriteCause, IsUsage, IsRefused, IsDone, KeepsCounts, IsAnswer, IsLater}
+use Rattle.aplc_cli.specs.Call.{Command, Sent, outcome, outcome_of, Outside, host_after, Matter, Meets, TextFault, Works, Reports, Ends, refusal_line, IsMissingFile, HasReadCause, HasWriteCause, IsUsage, IsRefused, IsDone, KeepsCounts, IsAnswer, IsLater}
 
 module _ (c : Option Command) (old new : Outside) (e e2 : SinkState) (s : Status) where
   missing : (cmd : Command) → c ≡ Some cmd → IsMissing old.host.files cmd.name → IsMissingFile c old.host

@@ -1,15 +1,14 @@
 -- How the steps of a call make the whole.
-use Rattle.std.proofs.Common.{◌≡◌, ℕ, zero, suc, ◌+◌, ◌<◌, ◌≤◌, Bool, true, false, List, [], ◌∷◌, ◌++◌, take, length, Option, None, Some, Result, Ok, Err, IfSome, refl, sym, ap, subst, ◌∙◌, inl, inr, arith}
+use Rattle.std.proofs.Common.{◌≡◌, ℕ, zero, suc, ◌<◌, ◌≤◌, false, List, [], ◌∷◌, take, length, Option, None, Some, Result, Ok, Err, IfSome, refl, sym, ap, subst, ◌∙◌, inl, inr, arith}
 use Rattle.std.proofs.lemmas.Bool.Decides.{nat_tests}
 use Rattle.aplc_io.specs.Outside.{SourceState, SinkState, HostState, Target, target_of, set_to, with, text_begun, text_with, TextNotBegun, IsFile, IsLongFile, sink_with}
 use Rattle.aplc_io.specs.Parts.{PartOfText}
-use Rattle.aplc_io.proofs.Sent.{sink_with-nil}
 use Rattle.aplc_cli.specs.declared.refusal.Refusal.{Refusal}
 use Rattle.aplc_cli.specs.declared.status.Stop.{Stop}
 use Rattle.aplc_cli.specs.declared.status.Stop.TheVariants as stop
 use Rattle.aplc_cli.specs.Source.{source_of, cut_lines, read_lines}
-use Rattle.aplc_cli.specs.Compiled.{refusal, refused_later, IsCompiled, source_limit}
-use Rattle.aplc_cli.specs.Call.{Command, Sent, Outcome, outcome_of, outcome, Outside, host_after, Matter, Meets, Works, Fetched, Compiles, Sends, NotBegun, CutShort, PartSent}
+use Rattle.aplc_cli.specs.Compiled.{refusal, IsCompiled}
+use Rattle.aplc_cli.specs.Call.{Command, Sent, outcome_of, Outside, host_after, Matter, Meets, Works, Fetched, Compiles, Sends, PartSent}
 
 abbrev world : HostState → SourceState → SinkState → Outside
 world h i o = record { host = h; input = i; out = o }

@@ -1,6 +1,6 @@
 -- The program of a source is well formed.
-use Rattle.std.proofs.Common.{◌≡◌, ℕ, zero, suc, ◌+◌, ◌<◌, ◌≤◌, Bool, true, false, cond, List, [], ◌∷◌, ◌++◌, length, Option, None, Some, refl, sym, ap, ◌∙◌, arith}
-use Rattle.std.specs.Prelude.{ℤ, pos, negsuc, ◌-ℤ◌, ◌^◌, int_lt, nat_lt, ◌&&◌, IsTrue, map}
+use Rattle.std.proofs.Common.{◌≡◌, ℕ, ◌+◌, ◌<◌, true, false, cond, List, [], ◌∷◌, ◌++◌, length, Option, None, Some, refl, ap, ◌∙◌, arith}
+use Rattle.std.specs.Prelude.{ℤ, pos, negsuc, ◌-ℤ◌, ◌^◌, int_lt, nat_lt, ◌&&◌}
 use Rattle.std.specs.List.{list_all}
 use Rattle.std.proofs.lemmas.Bool.Decides.{nat_tests}
 use Rattle.std.proofs.lemmas.Int.{ints}
@@ -8,14 +8,12 @@ use Rattle.aplc_scalar.specs.Scalar.{in_range}
 use Rattle.aplc_cprof.specs.declared.syntax.Int.{Int}
 use Rattle.aplc_cprof.specs.declared.syntax.Int.TheVariants as int
 use Rattle.aplc_cprof.specs.declared.syntax.Op.TheVariants as op
-use Rattle.aplc_cprof.specs.declared.syntax.CExpr.{CExpr}
 use Rattle.aplc_cprof.specs.declared.syntax.CExpr.TheVariants as expr
 use Rattle.aplc_cprof.specs.declared.syntax.CStmt.{CStmt}
 use Rattle.aplc_cprof.specs.declared.syntax.CStmt.TheVariants as stmt
 use Rattle.aplc_cprof.specs.WellFormed.{Scope, is_plain, is_name, is_expr, is_stmt, are_stmts, is_formed, IsWellFormed}
 use Rattle.aplc_cprof.proofs.Forms.{is_Lit, is_Var, is_Bin, is_Set, is_Check, is_PutNum, is_PutChar, is_At}
 use Rattle.aplc_cli.specs.declared.source.Applied.{Applied}
-use Rattle.aplc_cli.specs.declared.source.Sum.{Sum}
 use Rattle.aplc_cli.specs.Source.{Line}
 use Rattle.aplc_cli.specs.Runs.{main}
 use Rattle.aplc_cli.specs.Emitted.{literal, checked_of, applied_code, value_code, display_code, line_code, lines_code, program_code, is_supported, is_line_supported, are_supported}

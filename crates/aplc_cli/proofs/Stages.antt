@@ -3,9 +3,8 @@ use Rattle.std.proofs.Common.{◌≡◌, ℕ, ◌≤◌, List, length, None, Som
 use Rattle.std.proofs.lemmas.Bool.Decides.{nat_tests}
 use Rattle.aplc_cprof.specs.declared.syntax.CProgram.{CProgram}
 use Rattle.aplc_cprof.specs.Text.{program_text}
-use Rattle.aplc_cprof.specs.WellFormed.{IsWellFormed, IsText}
+use Rattle.aplc_cprof.specs.WellFormed.{IsWellFormed}
 use Rattle.aplc_cprof.specs.Behaviour.{behaviour, Alike}
-use Rattle.aplc_cli.specs.declared.refusal.Refusal.{Refusal}
 use Rattle.aplc_cli.specs.Source.{Line, source_of}
 use Rattle.aplc_cli.specs.Runs.{source_behaviour}
 use Rattle.aplc_cli.specs.Compiled.{refusal, refused_later, IsCompiled}

@@ -1,5 +1,5 @@
 -- The lines of a source are such as the generator takes.
-use Rattle.std.proofs.Common.{◌≡◌, ℕ, zero, suc, ◌+◌, ◌-◌, ◌<◌, ◌≤◌, Bool, true, false, cond, List, [], ◌∷◌, length, drop, Option, None, Some, Result, Ok, Err, refl, sym, ap, subst, ◌∙◌, arith}
+use Rattle.std.proofs.Common.{◌≡◌, ℕ, zero, suc, ◌+◌, ◌<◌, ◌≤◌, Bool, true, false, cond, List, [], ◌∷◌, length, drop, Option, None, Some, Ok, Err, refl, ap, subst, ◌∙◌, arith}
 use Rattle.std.specs.Prelude.{ℤ, pos, ◌-ℤ◌, ◌^◌, nat_lt, nat_eq, ◌&&◌, option_map, unsigned_abs}
 use Rattle.std.specs.List.{list_all}
 use Rattle.std.specs.Str.{bytes_eq}
@@ -10,7 +10,7 @@ use Rattle.aplc_scalar.specs.declared.function.ScalarFn.{ScalarFn}
 use Rattle.aplc_scalar.specs.declared.function.ScalarFn.TheVariants as function
 use Rattle.aplc_cli.specs.declared.source.Applied.{Applied}
 use Rattle.aplc_cli.specs.declared.source.Sum.{Sum}
-use Rattle.aplc_cli.specs.Source.{is_digit, digits_from, magnitude, negative, is_negative, numeral, Parts, whole, cut, begun, push, is_times, parted, also, all_applied, sum_with, sum_of, Line, content, line_with, content_line, line_of, cut_lines, first_line, last_line, Read, after_last, with_line, after_first, read_lines, source_of}
+use Rattle.aplc_cli.specs.Source.{is_digit, digits_from, magnitude, negative, is_negative, numeral, Parts, whole, cut, begun, push, is_times, parted, also, all_applied, sum_with, sum_of, Line, content, content_line, line_of, cut_lines, first_line, last_line, Read, after_last, with_line, after_first, read_lines, source_of}
 use Rattle.aplc_cli.specs.Emitted.{is_checked, is_supported, is_line_supported, are_supported}
 
 -- ---- Numbers

@@ -1,8 +1,8 @@
 -- What a call of the program comes to.
-use Rattle.std.specs.Prelude.{◌≡◌, ◌≢◌, ◌⊎◌, ℕ, ◌≤◌, Bool, true, false, not, nat_eq, if◌then◌else◌, List, [], ◌∷◌, ◌++◌, take, length, ◌<◌, Option, None, Some, Result, Ok, Err, codes}
+use Rattle.std.specs.Prelude.{◌≡◌, ◌⊎◌, ℕ, ◌≤◌, Bool, false, not, nat_eq, if◌then◌else◌, List, [], ◌∷◌, ◌++◌, take, length, ◌<◌, Option, None, Some, Result, Ok, Err, codes}
 use Rattle.std.specs.Fmt.{decimal}
 use Rattle.aplc_io.specs.Outside.{SourceState, SinkState, HostState, Target, target_of, Rose, IsFile, FetchFails, IsMissing, set_to, sink_with}
-use Rattle.aplc_io.specs.Parts.{PartWritten, PartOfText, Tried}
+use Rattle.aplc_io.specs.Parts.{PartWritten, Tried}
 use Rattle.aplc_cli.specs.declared.refusal.Refusal.{Refusal}
 use Rattle.aplc_cli.specs.declared.status.Stop.{Stop}
 use Rattle.aplc_cli.specs.declared.status.Stop.TheVariants as stop

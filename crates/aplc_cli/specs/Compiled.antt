@@ -1,5 +1,5 @@
 -- What a file is compiled to, or why it is refused.
-use Rattle.std.specs.Prelude.{◌≡◌, ℕ, List, length, nat_lt, Option, None, Some, Result, Ok, Err, if◌then◌else◌}
+use Rattle.std.specs.Prelude.{◌≡◌, ℕ, List, length, nat_lt, Option, None, Some, Ok, Err, if◌then◌else◌}
 use Rattle.aplc_cprof.specs.declared.syntax.CProgram.{CProgram}
 use Rattle.aplc_cprof.specs.WellFormed.{IsText}
 use Rattle.aplc_cprof.specs.Behaviour.{behaviour, Alike}

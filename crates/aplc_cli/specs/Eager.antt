@@ -1,5 +1,5 @@
 -- What a program of sums means: evaluation from the right, line after line.
-use Rattle.std.specs.Prelude.{ℕ, zero, suc, ◌+◌, ◌-◌, List, [], ◌∷◌, ◌++◌, ℤ, Option, None, Some, Result, Ok, Err, nat_eq, if◌then◌else◌}
+use Rattle.std.specs.Prelude.{ℕ, ◌+◌, ◌-◌, List, [], ◌∷◌, ◌++◌, ℤ, None, Some, Ok, Err, nat_eq, if◌then◌else◌}
 use Rattle.aplc_scalar.specs.declared.kind.FaultKind.{FaultKind}
 use Rattle.aplc_scalar.specs.Scalar.{Given, dyadic}
 use Rattle.aplc_scalar.specs.Number.{number_text}

@@ -1,5 +1,5 @@
 -- The statements that a program of sums becomes.
-use Rattle.std.specs.Prelude.{ℕ, suc, ◌+◌, List, [], ◌∷◌, ◌++◌, ℤ, pos, ◌-ℤ◌, int_lt, Bool, true, false, ◌&&◌, Option, None, Some, if◌then◌else◌}
+use Rattle.std.specs.Prelude.{ℕ, ◌+◌, List, [], ◌∷◌, ◌++◌, ℤ, pos, ◌-ℤ◌, int_lt, Bool, true, false, ◌&&◌, None, Some, if◌then◌else◌}
 use Rattle.std.specs.List.{list_all}
 use Rattle.aplc_scalar.specs.Scalar.{in_range}
 use Rattle.aplc_scalar.specs.declared.function.ScalarFn.{ScalarFn}
@@ -15,7 +15,6 @@ use Rattle.aplc_cprof.specs.declared.syntax.CExpr.TheVariants as expr
 use Rattle.aplc_cprof.specs.declared.syntax.CStmt.{CStmt}
 use Rattle.aplc_cprof.specs.declared.syntax.CStmt.TheVariants as stmt
 use Rattle.aplc_cli.specs.declared.source.Applied.{Applied}
-use Rattle.aplc_cli.specs.declared.source.Sum.{Sum}
 use Rattle.aplc_cli.specs.Source.{Line}
 use Rattle.aplc_cli.specs.Runs.{main}
 

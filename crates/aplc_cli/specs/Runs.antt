@@ -1,5 +1,5 @@
 -- The run of a program of sums with so many lines started, and what it shows.
-use Rattle.std.specs.Prelude.{ℕ, List, [], ◌∷◌, ℤ, pos, codes}
+use Rattle.std.specs.Prelude.{ℕ, List, [], ◌∷◌, pos, codes}
 use Rattle.aplc_scalar.specs.declared.kind.FaultKind.{FaultKind}
 use Rattle.aplc_cprof.specs.Behaviour.{Standing}
 use Rattle.aplc_cprof.specs.Behaviour as standing

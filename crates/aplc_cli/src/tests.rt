@@ -2,7 +2,7 @@
 //! The expected bytes come from the rules of the language and of the C profile.
 
 use super::*;
-use aplc_cprof::preamble_bytes;
+use aplc_cprof::{Builder, CExpr, CStmt, preamble_bytes};
 use aplc_io::{MemHost, MemSink, MemSource};
 use std::alloc::Global;
 use std::process::Abort;
@@ -32,12 +32,7 @@ struct Answer<'a> {
     err: &'a [u8],
 }
 
-fn check(
-    rt: &impl Abort,
-    alloc: Global,
-    case: &Case<'_>,
-    answer: &Answer<'_>,
-) -> Result<(), Fail> {
+fn check(rt: &impl Abort, alloc: Global, case: &Case<'_>, answer: &Answer<'_>) -> Result<(), Fail> {
     let mut words = Vec::new(alloc);
     for word in case.words {
         words.push(String::from_str(alloc, word)?)?;
@@ -71,7 +66,8 @@ fn compiles(rt: HostRuntime) -> Result<(), Fail> {
         file: "∇MAIN\n2+3×4\n∇\n".as_bytes(),
         ..PLAIN
     };
-    let text = b"static void f0(void);\nstatic void f0(void) {\nint64_t v0;\nat(\"MAIN\", 1);\nv0 = 4LL;\nv0 = mul(3LL, v0);\nv0 = add(2LL, v0);\nput_num(v0, 0LL);\nput_char(10LL);\n}\nint main(void) {\nf0();\nreturn 0;\n}\n";
+    let text =
+        b"static void f0(void);\nstatic void f0(void) {\nint64_t v0;\nat(\"MAIN\", 1);\nv0 = 4LL;\nv0 = mul(3LL, v0);\nv0 = add(2LL, v0);\nput_num(v0, 0LL);\nput_char(10LL);\n}\nint main(void) {\nf0();\nreturn 0;\n}\n";
     let done = Answer {
         status: Status::Done,
         text,
@@ -82,7 +78,8 @@ fn compiles(rt: HostRuntime) -> Result<(), Fail> {
         file: "∇MAIN\n\n¯7-0\n∇\n".as_bytes(),
         ..PLAIN
     };
-    let text = b"static void f0(void);\nstatic void f0(void) {\nint64_t v0;\nat(\"MAIN\", 2);\nv0 = 0LL;\nv0 = sub((0LL - 7LL), v0);\nput_num(v0, 0LL);\nput_char(10LL);\n}\nint main(void) {\nf0();\nreturn 0;\n}\n";
+    let text =
+        b"static void f0(void);\nstatic void f0(void) {\nint64_t v0;\nat(\"MAIN\", 2);\nv0 = 0LL;\nv0 = sub((0LL - 7LL), v0);\nput_num(v0, 0LL);\nput_char(10LL);\n}\nint main(void) {\nf0();\nreturn 0;\n}\n";
     check(&rt, rt.alloc(), &case, &Answer { text, ..done })
 }
 
@@ -174,4 +171,22 @@ fn stops(rt: HostRuntime) -> Result<(), Fail> {
         ..PLAIN
     };
     check(&rt, rt.alloc(), &case, &write_fault)
+}
+
+#[test]
+fn builds(rt: HostRuntime) -> Result<(), Fail> {
+    let mut b = Builder::new(rt.alloc());
+    let v = b.fresh_int()?;
+    let p = b.fresh_buf()?;
+    b.open()?;
+    b.emit(CStmt::Free(p))?;
+    let block = b.close();
+    assert_eq!(rt; block.len(), 1);
+    b.emit(CStmt::While(CExpr::Var(v), block))?;
+    b.open()?;
+    let block = b.close();
+    assert_eq!(rt; block.len(), 0);
+    let second = b.fresh_int()?;
+    assert!(rt; v != second);
+    Ok(())
 }

@@ -1,4 +1,4 @@
-use Rattle.std.proofs.Common.{◌≡◌, ◌<◌, ◌≤◌, ℕ, List, length, ap, sym, subst, arith, refl, true}
+use Rattle.std.proofs.Common.{◌≡◌, ℕ, List, length, ap, sym, subst, arith, true}
 use Rattle.aplc_cprof.specs.Behaviour.{behaviour, Alike}
 use Rattle.aplc_cli.specs.Source.{Line, IsStop, source_of}
 use Rattle.aplc_cli.specs.Runs.{source_behaviour}

@@ -1,5 +1,4 @@
-use Rattle.std.proofs.Common.{◌≡◌, ◌++◌, ◌≤◌, length, drop}
-use Rattle.aplc_cprof.specs.Blocks.{Blocks}
+use Rattle.std.proofs.Common.{◌≡◌, ◌++◌, drop}
 use Rattle.aplc_cli.specs.Emitted.{value_code}
 use Rattle.aplc_cli.proofs.generating.emit_value.Given as goal
 

@@ -1,4 +1,4 @@
-use Rattle.std.proofs.Common.{◌≡◌, sym, subst}
+use Rattle.std.proofs.Common.{sym, subst}
 use Rattle.aplc_cprof.specs.declared.syntax.CProgram.{CProgram}
 use Rattle.aplc_cprof.specs.WellFormed.{IsWellFormed}
 use Rattle.aplc_cprof.specs.Behaviour.{behaviour, Alike}

@@ -1,4 +1,4 @@
-use Rattle.std.proofs.Common.{◌≡◌, None, Some, Err, sym, subst}
+use Rattle.std.proofs.Common.{Err, subst}
 use Rattle.aplc_cli.specs.Call.{Command, Outside, Works}
 use Rattle.aplc_cli.proofs.Ended.{unread, unfetched, uncompiled, ended}
 use Rattle.aplc_cli.proofs.top.work.Goals as goal

@@ -2,6 +2,7 @@
 use Rattle.std.proofs.Common.{◌≡◌, ℕ, zero, suc, ◌+◌, ◌*◌, ◌<◌, ◌≤◌, List, [], ◌∷◌, ◌++◌, ◌⊎◌, inl, inr, refl, sym, ap, ◌∙◌, subst, arith, append_assoc, append-nil, ℤ, Bool, true, false, cond}
 use Rattle.std.specs.Prelude.{Option, Some, None, map, pos, ◌^◌, length, replicate, slice_get, slice_set, encode_utf8}
 use Rattle.aplc_scalar.specs.Scalar.{int_eq}
+use Rattle.aplc_scalar.specs.Input.{Line, Unread, input_line, number_line}
 use Rattle.aplc_scalar.specs.declared.kind.FaultKind.{FaultKind}
 use Rattle.aplc_scalar.specs.declared.kind.FaultKind.TheVariants as fault
 use Rattle.aplc_cprof.specs.declared.syntax.Int.{Int}
@@ -16,11 +17,11 @@ use Rattle.aplc_cprof.specs.declared.syntax.StuckCause.{StuckCause}
 use Rattle.aplc_cprof.specs.declared.syntax.CExpr.{CExpr}
 use Rattle.aplc_cprof.specs.declared.syntax.CStmt.{CStmt}
 use Rattle.aplc_cprof.specs.declared.syntax.CStmt.TheVariants as stmt
-use Rattle.aplc_cprof.specs.Machine.{total, size, numbered, numbered_if, is_zero, chosen, read_int, named_buf, buf_or_null, set_buf, text_width, code_of, initial, first_body, bodies_from, no_ints, no_bufs, Todo, Code, State, Is, Bad, Going, Ended, Faulted, ranged, exact, set_int, padded_text, is_scalar, value, settled, step, and_then, run}
+use Rattle.aplc_cprof.specs.Machine.{total, size, numbered, numbered_if, is_zero, chosen, read_int, named_buf, buf_or_null, set_buf, text_width, code_of, initial, first_body, bodies_from, no_ints, no_bufs, Todo, Code, State, Is, Bad, Going, Ended, Faulted, ranged, exact, set_int, with_line, padded_text, is_scalar, value, settled, step, and_then, run}
 use Rattle.aplc_cprof.specs.Behaviour.{shown, behaviour}
 use Rattle.aplc_cprof.specs.Behaviour as standing
 use Rattle.aplc_cprof.proofs.Values.{value_todo}
-use Rattle.aplc_cprof.proofs.Runs.{step_Set, step_Check, step_Check_limit, step_PutNum, step_PutChar, step_At, step_Fault, step_If, step_While, step_Width, step_SetBuf, step_Cells, step_SetCell, step_Free, step_Free_null, step_Switch, step_Call, step_leave, step_end}
+use Rattle.aplc_cprof.proofs.Runs.{step_Set, step_Check, step_Check_limit, step_PutNum, step_PutChar, step_At, step_Fault, step_If, step_While, step_Width, step_ReadText, step_ReadText_fault, step_ReadNums, step_ReadNums_fault, step_ReadCount, step_SetBuf, step_Cells, step_SetCell, step_Free, step_Free_null, step_Switch, step_Call, step_leave, step_end}
 
 -- numbers run on from one piece of code to the next
 pub numbered-append : (n : ℕ) (a b : List CStmt) → numbered n (a ++ b) ≡ numbered n a ++ numbered (n + total (map size a)) b
@@ -281,6 +282,42 @@ module _ (c : Code) where
       (λ n rest. let todo : Todo = (n, stmt.Cells p e) ∷ rest in
       step_Cells c n p e rest (record s { todo = todo }) k refl (value_todo e c.tables s todo ∙ is) lt ∙ ap (λ (t : State). Going (settled t)) (buf_todo p (Some (length s.heap)) made todo rest))
       (buf_due p (Some (length s.heap)) made)
+
+  -- the next line is read as characters into a new buffer
+  pub does_ReadText : (Q : State → Type 0) (p : Buf) (s : State) (Post : State → Type 0) (Fail : FaultKind → State → Type 0) (cells : List ℤ) (left : List ℕ) → input_line s.input ≡ Line cells left → ((rest : Todo) → Q (settled (record (with_line p cells left s) { todo = rest }))) → ((rest : Todo) → Post (settled (record (with_line p cells left s) { todo = rest }))) → Does Q 1 (stmt.ReadText p ∷ []) s Post Fail
+  does_ReadText Q p s Post Fail cells left is =
+      let read : State = record s { heap = s.heap ++ Some cells ∷ []; read_count = pos (length cells); input = left } in
+      does_step Q (stmt.ReadText p) s Post Fail (λ rest. settled (record (with_line p cells left s) { todo = rest }))
+      (λ n rest. let todo : Todo = (n, stmt.ReadText p) ∷ rest in
+      step_ReadText c n p rest (record s { todo = todo }) cells left refl is ∙ ap (λ (t : State). Going (settled t)) (buf_todo p (Some (length s.heap)) read todo rest))
+      (buf_due p (Some (length s.heap)) read)
+
+  -- a line that can't be read as characters faults
+  pub does_ReadText_fault : (Q : State → Type 0) (p : Buf) (s : State) (Post : State → Type 0) (Fail : FaultKind → State → Type 0) (k : FaultKind) → input_line s.input ≡ Unread k → ((todo : Todo) → Fail k (record s { todo = todo })) → Does Q 0 (stmt.ReadText p ∷ []) s Post Fail
+  does_ReadText_fault Q p s Post Fail k is =
+      does_fault Q (stmt.ReadText p) s Post Fail k (λ n rest. step_ReadText_fault c n p rest (record s { todo = (n, stmt.ReadText p) ∷ rest }) k refl is)
+
+  -- the next line is read as numbers into a new buffer
+  pub does_ReadNums : (Q : State → Type 0) (p : Buf) (s : State) (Post : State → Type 0) (Fail : FaultKind → State → Type 0) (cells : List ℤ) (left : List ℕ) → number_line s.input ≡ Line cells left → ((rest : Todo) → Q (settled (record (with_line p cells left s) { todo = rest }))) → ((rest : Todo) → Post (settled (record (with_line p cells left s) { todo = rest }))) → Does Q 1 (stmt.ReadNums p ∷ []) s Post Fail
+  does_ReadNums Q p s Post Fail cells left is =
+      let read : State = record s { heap = s.heap ++ Some cells ∷ []; read_count = pos (length cells); input = left } in
+      does_step Q (stmt.ReadNums p) s Post Fail (λ rest. settled (record (with_line p cells left s) { todo = rest }))
+      (λ n rest. let todo : Todo = (n, stmt.ReadNums p) ∷ rest in
+      step_ReadNums c n p rest (record s { todo = todo }) cells left refl is ∙ ap (λ (t : State). Going (settled t)) (buf_todo p (Some (length s.heap)) read todo rest))
+      (buf_due p (Some (length s.heap)) read)
+
+  -- a line that can't be read as numbers faults
+  pub does_ReadNums_fault : (Q : State → Type 0) (p : Buf) (s : State) (Post : State → Type 0) (Fail : FaultKind → State → Type 0) (k : FaultKind) → number_line s.input ≡ Unread k → ((todo : Todo) → Fail k (record s { todo = todo })) → Does Q 0 (stmt.ReadNums p ∷ []) s Post Fail
+  does_ReadNums_fault Q p s Post Fail k is =
+      does_fault Q (stmt.ReadNums p) s Post Fail k (λ n rest. step_ReadNums_fault c n p rest (record s { todo = (n, stmt.ReadNums p) ∷ rest }) k refl is)
+
+  -- a variable is set to the count of the last read
+  pub does_ReadCount : (Q : State → Type 0) (x : Int) (s : State) (Post : State → Type 0) (Fail : FaultKind → State → Type 0) → ((rest : Todo) → Q (settled (record (set_int x s.read_count s) { todo = rest }))) → ((rest : Todo) → Post (settled (record (set_int x s.read_count s) { todo = rest }))) → Does Q 1 (stmt.ReadCount x ∷ []) s Post Fail
+  does_ReadCount Q x s Post Fail =
+      does_step Q (stmt.ReadCount x) s Post Fail (λ rest. settled (record (set_int x s.read_count s) { todo = rest }))
+      (λ n rest. let todo : Todo = (n, stmt.ReadCount x) ∷ rest in
+      step_ReadCount c n x rest (record s { todo = todo }) refl ∙ ap (λ (t : State). Going (settled t)) (set_todo x s.read_count s todo rest))
+      (set_due x s.read_count s)
 
   -- a cell of a buffer that is not freed is written
   pub does_SetCell : (Q : State → Type 0) (p : Buf) (e f : CExpr) (s : State) (Post : State → Type 0) (Fail : FaultKind → State → Type 0) (b : ℕ) (cells : List ℤ) (k : ℕ) (v : ℤ) → value e c.tables s ≡ Is (pos k) → value f c.tables s ≡ Is v → named_buf p s ≡ Some b → slice_get s.heap b ≡ Some (Some cells) → k < length cells → ((rest : Todo) → Q (settled (record s { todo = rest; heap = slice_set s.heap b (Some (slice_set cells k v)) }))) → ((rest : Todo) → Post (settled (record s { todo = rest; heap = slice_set s.heap b (Some (slice_set cells k v)) }))) → Does Q 1 (stmt.SetCell p e f ∷ []) s Post Fail

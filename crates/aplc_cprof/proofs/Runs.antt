@@ -14,7 +14,8 @@ use Rattle.aplc_cprof.specs.declared.syntax.CStmt.TheOpen.{CStmt-F}
 use Rattle.aplc_cprof.specs.declared.syntax.StuckCause.{StuckCause}
 use Rattle.aplc_cprof.specs.declared.syntax.StuckCause.TheVariants.{Range, Outside}
 use Rattle.aplc_scalar.specs.Number.{number_text}
-use Rattle.aplc_cprof.specs.Machine.{total, size, numbered, numbered_if, is_zero, chosen, no_ints, no_bufs, read_int, named_buf, set_buf, buf_or_null, text_width, new_cells, write_cell, write_live, free_named, free_cells, enter, Caller, Todo, Code, State, Value, Is, Bad, Next, Going, Ended, Faulted, Stuck, value, ranged, exact, set_int, onward, with_value, limit_or, padded_text, printed, put_number, put_character, is_scalar, leave, act, due, settled, settled_next, step, and_then, run}
+use Rattle.aplc_scalar.specs.Input.{Line, Unread, input_line, number_line}
+use Rattle.aplc_cprof.specs.Machine.{total, size, numbered, numbered_if, is_zero, chosen, no_ints, no_bufs, read_int, named_buf, set_buf, buf_or_null, text_width, new_cells, write_cell, write_live, with_line, read_cells, free_named, free_cells, enter, Caller, Todo, Code, State, Value, Is, Bad, Next, Going, Ended, Faulted, Stuck, value, ranged, exact, set_int, onward, with_value, limit_or, padded_text, printed, put_number, put_character, is_scalar, leave, act, due, settled, settled_next, step, and_then, run}
 
 goes : (c : Code) (k m : ℕ) (x : Next) → ((s : State) → run c (k + m) s ≡ and_then (run c k s) (run c m)) → and_then x (run c (k + m)) ≡ and_then (and_then x (run c k)) (run c m)
 goes c k m (Going s) ih = ih s
@@ -90,6 +91,26 @@ step_Width c n x e rest s v h is =
 -- a variable is set to the count of the last read
 pub step_ReadCount : (c : Code) (n : ℕ) (x : Int) (rest : Todo) (s : State) → s.todo ≡ (n, stmt.ReadCount x) ∷ rest → step c s ≡ Going (settled (record (set_int x s.read_count s) { todo = rest }))
 step_ReadCount c n x rest s h = step_act c n (stmt.ReadCount x) (CStmt-F.ReadCount x) rest s (onward rest (set_int x s.read_count s)) h (stmt.outs-ReadCount x) refl
+
+-- the next line is read as characters into a new buffer
+pub step_ReadText : (c : Code) (n : ℕ) (p : Buf) (rest : Todo) (s : State) (cells : List ℤ) (left : List ℕ) → s.todo ≡ (n, stmt.ReadText p) ∷ rest → input_line s.input ≡ Line cells left → step c s ≡ Going (settled (record (with_line p cells left s) { todo = rest }))
+step_ReadText c n p rest s cells left h is =
+    step_act c n (stmt.ReadText p) (CStmt-F.ReadText p) rest s (read_cells p (Line cells left) rest s) h (stmt.outs-ReadText p) (ap (λ line. read_cells p line rest s) is)
+
+-- a line that can't be read as characters faults
+pub step_ReadText_fault : (c : Code) (n : ℕ) (p : Buf) (rest : Todo) (s : State) (k : FaultKind) → s.todo ≡ (n, stmt.ReadText p) ∷ rest → input_line s.input ≡ Unread k → step c s ≡ Faulted k (settled s)
+step_ReadText_fault c n p rest s k h is =
+    step_act c n (stmt.ReadText p) (CStmt-F.ReadText p) rest s (Faulted k s) h (stmt.outs-ReadText p) (ap (λ line. read_cells p line rest s) is)
+
+-- the next line is read as numbers into a new buffer
+pub step_ReadNums : (c : Code) (n : ℕ) (p : Buf) (rest : Todo) (s : State) (cells : List ℤ) (left : List ℕ) → s.todo ≡ (n, stmt.ReadNums p) ∷ rest → number_line s.input ≡ Line cells left → step c s ≡ Going (settled (record (with_line p cells left s) { todo = rest }))
+step_ReadNums c n p rest s cells left h is =
+    step_act c n (stmt.ReadNums p) (CStmt-F.ReadNums p) rest s (read_cells p (Line cells left) rest s) h (stmt.outs-ReadNums p) (ap (λ line. read_cells p line rest s) is)
+
+-- a line that can't be read as numbers faults
+pub step_ReadNums_fault : (c : Code) (n : ℕ) (p : Buf) (rest : Todo) (s : State) (k : FaultKind) → s.todo ≡ (n, stmt.ReadNums p) ∷ rest → number_line s.input ≡ Unread k → step c s ≡ Faulted k (settled s)
+step_ReadNums_fault c n p rest s k h is =
+    step_act c n (stmt.ReadNums p) (CStmt-F.ReadNums p) rest s (Faulted k s) h (stmt.outs-ReadNums p) (ap (λ line. read_cells p line rest s) is)
 
 -- a buffer variable is set to another's buffer, or to none
 pub step_SetBuf : (c : Code) (n : ℕ) (p : Buf) (q : Option Buf) (rest : Todo) (s : State) → s.todo ≡ (n, stmt.SetBuf p q) ∷ rest → step c s ≡ Going (settled (record (set_buf p (buf_or_null q s) s) { todo = rest }))

@@ -2,6 +2,7 @@
 use Rattle.std.proofs.Common.{◌≡◌, ℕ, zero, suc, ◌+◌, ◌-◌, ◌≤◌, List, [], ◌∷◌, ◌++◌, ◌⊎◌, inl, inr, ⊎_elim, refl, sym, ap, ◌∙◌, subst, arith, append_assoc, append-nil, ℤ, pos, negsuc, Bool, true, false, cond}
 use Rattle.std.specs.Prelude.{Option, Some, None, nat_lt, nat_le, length, ◌^◌, slice_get, encode_utf8}
 use Rattle.std.proofs.lemmas.Bool.{cases_lt}
+use Rattle.aplc_scalar.specs.Input.{InputLine, Line, Unread, input_line, number_line}
 use Rattle.aplc_cprof.specs.declared.syntax.Int.{Int}
 use Rattle.aplc_cprof.specs.declared.syntax.Int.TheVariants as int
 use Rattle.aplc_cprof.specs.declared.syntax.Buf.{Buf}
@@ -10,7 +11,7 @@ use Rattle.aplc_cprof.specs.declared.syntax.Arm.{Arm}
 use Rattle.aplc_cprof.specs.declared.syntax.CStmt.{CStmt, out-CStmt}
 use Rattle.aplc_cprof.specs.declared.syntax.CStmt.TheOpen.{CStmt-F}
 use Rattle.aplc_cprof.specs.declared.syntax.CProgram.{CProgram}
-use Rattle.aplc_cprof.specs.Machine.{Todo, Code, Caller, State, Value, Is, Bad, Next, value, ranged, exact, read_int, named_buf, buf_or_null, set_int, set_buf, onward, with_value, limit_or, padded_text, printed, put_number, put_character, is_scalar, new_cells, free_cells, free_named, write_place, write_live, write_cell, enter, leave, act, due, settled_next, step, and_then, run, code_of, initial}
+use Rattle.aplc_cprof.specs.Machine.{Todo, Code, Caller, State, Value, Is, Bad, Next, value, ranged, exact, read_int, named_buf, buf_or_null, set_int, set_buf, onward, with_value, limit_or, padded_text, printed, put_number, put_character, is_scalar, new_cells, free_cells, free_named, write_place, write_live, write_cell, read_cells, enter, leave, act, due, settled_next, step, and_then, run, code_of, initial}
 use Rattle.aplc_cprof.specs.Machine as machine
 use Rattle.aplc_cprof.specs.Behaviour.{Standing, Ended, Faulted, Going, Stuck, shown, behaviour, output, IsGoing, IsStuck, IsPrefix, Agrees, Alike}
 use Rattle.aplc_cprof.proofs.Runs.{run_sum}
@@ -88,6 +89,11 @@ extends_write : (b : Option ℕ) (k v : ℤ) (n : ℕ) (rest : Todo) (s : State)
 extends_write None k v n rest s = prefix_refl s.output
 extends_write (Some b) k v n rest s = extends_live b (slice_get s.heap b) k v n rest s
 
+extends_read : (p : Buf) (line : InputLine) (rest : Todo) (s : State) → Extends s (read_cells p line rest s)
+extends_read (buf.Local i) (Line cells left) rest s = prefix_refl s.output
+extends_read (buf.Global i) (Line cells left) rest s = prefix_refl s.output
+extends_read p (Unread k) rest s = prefix_refl s.output
+
 extends_enter : (body : Option Todo) (n : ℕ) (rest : Todo) (s : State) → Extends s (enter body n rest s)
 extends_enter None n rest s = prefix_refl s.output
 extends_enter (Some body) n rest s = prefix_refl s.output
@@ -108,8 +114,8 @@ act_extends c (CStmt-F.Check x o e f) n st rest s =
 act_extends c (CStmt-F.Width x e) n st rest s = extends_value (value e c.tables s) n s _ (λ v. extends_set x _ rest s)
 act_extends c (CStmt-F.PutNum e f) n st rest s = extends_value (value e c.tables s) n s _ (λ v. extends_value (value f c.tables s) n s _ (λ w. extends_put v w n rest s))
 act_extends c (CStmt-F.PutChar e) n st rest s = extends_value (value e c.tables s) n s _ (λ v. extends_char v n rest s)
-act_extends c (CStmt-F.ReadText p) n st rest s = prefix_refl s.output
-act_extends c (CStmt-F.ReadNums p) n st rest s = prefix_refl s.output
+act_extends c (CStmt-F.ReadText p) n st rest s = extends_read p (input_line s.input) rest s
+act_extends c (CStmt-F.ReadNums p) n st rest s = extends_read p (number_line s.input) rest s
 act_extends c (CStmt-F.ReadCount x) n st rest s = extends_set x s.read_count rest s
 act_extends c (CStmt-F.At name l) n st rest s = prefix_refl s.output
 act_extends c (CStmt-F.Fault k) n st rest s = prefix_refl s.output

@@ -5,6 +5,7 @@ use Rattle.aplc_scalar.specs.declared.kind.FaultKind.{FaultKind}
 use Rattle.aplc_scalar.specs.declared.kind.FaultKind.TheVariants as fault
 use Rattle.aplc_scalar.specs.Number.{number_text}
 use Rattle.aplc_scalar.specs.Scalar.{in_range, int_eq, truth, negated}
+use Rattle.aplc_scalar.specs.Input.{InputLine, Line, Unread, input_line, number_line}
 use Rattle.aplc_cprof.specs.declared.syntax.Int.{Int}
 use Rattle.aplc_cprof.specs.declared.syntax.Int.TheVariants as int
 use Rattle.aplc_cprof.specs.declared.syntax.Buf.{Buf}
@@ -325,6 +326,15 @@ abbrev pub buf_or_null : Option Buf → State → Option ℕ
 buf_or_null None s = None
 buf_or_null (Some q) s = named_buf q s
 
+-- the state with the cells of a line in a new buffer of just that many, their count, and the input after the line
+abbrev pub with_line : Buf → List ℤ → List ℕ → State → State
+with_line p cells left s = set_buf p (Some (length s.heap)) (record s { heap = s.heap ++ Some cells ∷ []; read_count = pos (length cells); input = left })
+
+-- a line that is read goes into such a buffer, one that can't be is a fault
+abbrev pub read_cells : Buf → InputLine → Todo → State → Next
+read_cells p (Line cells left) rest s = onward rest (with_line p cells left s)
+read_cells p (Unread k) rest s = Faulted k s
+
 -- a call: a new frame before the caller's
 abbrev pub enter : Option Todo → ℕ → Todo → State → Next
 enter None n rest s = Stuck Outside n s
@@ -340,8 +350,7 @@ abbrev pub leave : List Caller → State → Next
 leave [] s = Ended s
 leave (c ∷ cs) s = Going (record s { ints = c.ints; bufs = c.bufs; todo = c.todo; callers = cs })
 
--- what a statement of number n does, before the statements `rest`; where it faults or is stuck it stays due.
--- A read of a line is given a meaning with the input line; no program with one is well formed before.
+-- what a statement of number n does, before the statements `rest`; where it faults or is stuck it stays due
 abbrev pub act : Code → CStmt-F CStmt Arm → ℕ → CStmt → Todo → State → Next
 act c (CStmt-F.Set x e) n st rest s = with_value (value e c.tables s) n s (λ v. onward rest (set_int x v s))
 act c (CStmt-F.SetCell p e f) n st rest s =
@@ -356,8 +365,8 @@ act c (CStmt-F.Width x e) n st rest s = with_value (value e c.tables s) n s (λ 
 act c (CStmt-F.PutNum e f) n st rest s =
     with_value (value e c.tables s) n s (λ v. with_value (value f c.tables s) n s (λ w. put_number v w n rest s))
 act c (CStmt-F.PutChar e) n st rest s = with_value (value e c.tables s) n s (λ v. put_character v n rest s)
-act c (CStmt-F.ReadText p) n st rest s = Stuck Outside n s
-act c (CStmt-F.ReadNums p) n st rest s = Stuck Outside n s
+act c (CStmt-F.ReadText p) n st rest s = read_cells p (input_line s.input) rest s
+act c (CStmt-F.ReadNums p) n st rest s = read_cells p (number_line s.input) rest s
 act c (CStmt-F.ReadCount x) n st rest s = onward rest (set_int x s.read_count s)
 act c (CStmt-F.At name l) n st rest s = onward rest (record s { name = name; line = l })
 act c (CStmt-F.Fault k) n st rest s = Faulted k s

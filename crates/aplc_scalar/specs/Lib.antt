@@ -1,2 +1,3 @@
 pub mod Scalar
 pub mod Number
+pub mod Input

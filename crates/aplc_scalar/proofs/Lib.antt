@@ -1,0 +1,3 @@
+pub mod InputExamples
+pub mod InputLaws
+pub mod InputEnds

@@ -1,0 +1,4 @@
+pub mod Signs
+pub mod Heads
+pub mod Tokens
+pub mod Parts

@@ -1,0 +1,16 @@
+//! The tokens of an APL source, each with the bytes that it spans, or the first refusal of a text that has none.
+//! It must not know what tokens mean together, nor how long a source may be.
+#![tactic(auto)]
+
+mod cutting;
+mod heads;
+mod list;
+mod runs;
+mod signs;
+#[cfg(test)]
+mod tests;
+mod token;
+
+pub use cutting::tokens;
+pub use list::List;
+pub use token::{Refusal, Span, Stop, Token, TokenKind};

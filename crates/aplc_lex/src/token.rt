@@ -1,0 +1,64 @@
+//! Tokens, spans and refusals.
+//! They must not hold the text: a token's text is the slice of its span.
+
+use thiserror::Error;
+
+/// The bytes from `from` up to and without `to`, counted from 0 at the file's first byte.
+#[derive(Clone, Copy, Debug, PartialEq, Eq)]
+pub struct Span {
+    pub from: u64,
+    pub to: u64,
+}
+
+/// What a token is. The text of a name or of a quoted text is the slice of its span, quotes included.
+#[derive(Clone, Copy, Debug, PartialEq, Eq)]
+pub enum TokenKind {
+    /// A name of at most 63 characters.
+    Name,
+    /// A number and its value, in -9223372036854775807 to 9223372036854775807.
+    Number(i64),
+    /// A text between quotes.
+    Text,
+    /// The number input `⎕NUMS`.
+    NumsInput,
+    /// A symbol, in its first spelling.
+    Symbol(char),
+    /// The end of a line: LF, or CR LF.
+    LineEnd,
+}
+
+/// A token and where it stands.
+#[derive(Clone, Copy, Debug, PartialEq, Eq)]
+pub struct Token {
+    pub kind: TokenKind,
+    pub span: Span,
+}
+
+/// A refusal: its number, from 1 to 5, and its place in bytes from the file's first.
+#[derive(Clone, Copy, Debug, PartialEq, Eq)]
+pub struct Refusal {
+    pub number: u8,
+    pub place: u64,
+}
+
+/// Why a text gave no tokens.
+#[derive(Debug, Drop, Error)]
+pub enum Stop {
+    /// The text has no tokens; this is its first refusal.
+    #[error("the text is refused")]
+    Refused(Refusal),
+    /// Memory was wanting. Nothing is said of the text.
+    #[error("out of memory")]
+    Memory,
+}
+
+/// What stands at the head of a text, and how many bytes it takes, or a refusal's number.
+#[derive(Clone, Copy)]
+pub enum Head {
+    /// A blank or a comment.
+    Skip(usize),
+    /// A token.
+    Found(TokenKind, usize),
+    /// No token: the number of the refusal.
+    Bad(u8),
+}

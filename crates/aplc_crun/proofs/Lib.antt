@@ -1,0 +1,9 @@
+mod Advancing
+mod Callers
+mod Follow
+mod Frames
+mod Laid
+mod Numbers
+mod Parts
+mod Standing
+mod Turns

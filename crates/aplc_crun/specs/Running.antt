@@ -1,0 +1,66 @@
+-- The state of the definition that a machine stands for.
+use Rattle.std.specs.Prelude.{◌≡◌, ℕ, List, [], ◌∷◌, ◌++◌, pos, replicate, IsTrue}
+use Rattle.aplc_cprof.specs.declared.syntax.CProgram.{CProgram}
+use Rattle.aplc_cprof.specs.Machine.{State, Next, code_of}
+use Rattle.aplc_cprof.specs.Machine as machine
+use Rattle.aplc_crun.specs.declared.code.Entry.{Entry}
+use Rattle.aplc_crun.specs.declared.code.Laid.{Laid}
+use Rattle.aplc_crun.specs.declared.machine.Machine.{Machine}
+use Rattle.aplc_crun.specs.Laying.{Due, Setting, IsLaid, Sound, code_for, state_of}
+use Rattle.aplc_crun.specs.Building.{globals}
+use Rattle.aplc_crun.specs.declared.live.Verdict.{Verdict}
+use Rattle.aplc_crun.specs.declared.live.Verdict.TheVariants as verdict
+use Rattle.aplc_crun.specs.Flat.{Flat, flat_of, layout_of, none_of}
+
+abbrev pub setting : Due → Laid → List ℕ → List ℕ → Setting
+setting k l given input = record { due = k; nodes = l.nodes.items; given = given; input = input }
+
+-- The machine of a program stands for a state of the definition: `given` is the output that was handed over,
+-- and `more` the input that may still come.
+pub record Stands (p : CProgram) (m : Machine) (given more : List ℕ) (st : State) : Type 0 where
+  pub due : Due
+  pub laid : IsLaid (globals p.ints p.bufs) due (layout_of m.laid)
+  pub program : code_of p ≡ code_for due (layout_of m.laid)
+  pub sound : Sound (globals p.ints p.bufs) due (flat_of m.live)
+  pub state : st ≡ state_of (setting due m.laid given (m.ahead.items ++ more)) (flat_of m.live)
+
+-- the definition's words for what steps come to
+abbrev pub next_of : Verdict → ℕ → State → Next
+next_of verdict.Going n st = machine.Going st
+next_of verdict.Ended n st = machine.Ended st
+next_of (verdict.Faulted k) n st = machine.Faulted k st
+next_of (verdict.Stuck c) n st = machine.Stuck c n st
+next_of verdict.Held n st = machine.Going st
+
+-- steps come to what the definition says, in a state for which the machine stands
+pub record Comes (p : CProgram) (v : Verdict) (m : Machine) (given more : List ℕ) (next : Next) : Type 0 where
+  pub state : State
+  pub is : next_of v m.live.at state ≡ next
+  pub stands : Stands p m given more state
+
+-- ---- The start
+
+abbrev pub StartsAt : List Entry → Entry → Type 0
+StartsAt [] e = e ≡ record { at = 0; ints = 0; bufs = 0 }
+StartsAt (x ∷ xs) e = e ≡ x
+
+abbrev pub start_flat : Entry → ℕ → ℕ → ℕ → Flat
+start_flat e ints bufs mark = record {
+  at = e.at;
+  ints = none_of e.ints;
+  bufs = none_of e.bufs;
+  global_ints = replicate ints (pos 0);
+  global_bufs = none_of bufs;
+  heap = [];
+  callers = [];
+  mark = mark;
+  read_count = pos 0;
+  output = [];
+  held = 0;
+  peak = 0;
+  steps = 0;
+}
+
+-- whether a machine can run
+abbrev pub CanRun : Machine → Type 0
+CanRun m = IsTrue m.ready

@@ -1,0 +1,495 @@
+//! Lays a program out.
+//! It must not know how the nodes are carried out.
+
+ghost use Rattle.std.specs.Prelude.{◌≡◌, ◌+◌, ◌∷◌, ◌++◌, [], OnOk, IfOk, length, map};
+ghost use Rattle.aplc_cprof.specs.declared.syntax.CStmt.TheVariants as stmt;
+ghost use Rattle.aplc_crun.specs.declared.code.Node.TheVariants as form;
+ghost use Rattle.aplc_crun.specs.Building.{IntInRoom, BufInRoom, LaidStmt, LaidBlock, LaidArms, LaidFunctions, choices_of, globals};
+
+use crate::code::{Choice, Entry, Laid, Node};
+use crate::sizes::{after, after_all, after_arms, begin, next_place};
+use aplc_cprof::{Arm, Buf, CExpr, CFunction, CProgram, CStmt, Checked, Int, List};
+use sqlite_items::{Boxed, Items};
+use std::alloc::{AllocError, Global};
+
+/// How many variables the statements of a function may name.
+#[derive(Clone, Copy, Debug, PartialEq, Eq)]
+pub struct Room {
+    pub ints: usize,
+    pub bufs: usize,
+    pub global_ints: usize,
+    pub global_bufs: usize,
+}
+
+fn copy(alloc: Global, e: &CExpr) -> Result<CExpr, AllocError>
+    ensures { IfOk result (λ c. c ≡ e.now) }
+{
+    match e {
+        CExpr::Lit(n) => Ok(CExpr::Lit(*n)),
+        CExpr::Var(x) => Ok(CExpr::Var(*x)),
+        CExpr::Cell(p, e) => {
+            let e = copy(alloc, e.get())?;
+            Ok(CExpr::Cell(*p, Boxed::new(alloc, e)?))
+        }
+        CExpr::Table(k, e) => {
+            let e = copy(alloc, e.get())?;
+            Ok(CExpr::Table(*k, Boxed::new(alloc, e)?))
+        }
+        CExpr::Bin(op, a, b) => {
+            let a = copy(alloc, a.get())?;
+            let b = copy(alloc, b.get())?;
+            Ok(CExpr::Bin(*op, Boxed::new(alloc, a)?, Boxed::new(alloc, b)?))
+        }
+    }
+}
+
+fn copy_name(alloc: Global, name: &[u8]) -> Result<List<u8>, AllocError>
+    ensures { IfOk result (λ c. c ≡ name.now) }
+{
+    let bytes = Vec::from_slice(alloc, name)?;
+    Ok(List::from_vec(bytes))
+}
+
+/// A variable that a function does not declare is in no well formed program.
+fn int_in_room(room: Room, x: Int) -> Result<(), AllocError>
+    ensures { OnOk result (IntInRoom room x) }
+{
+    match x {
+        Int::Local(n) if (n as usize) < room.ints => Ok(()),
+        Int::Global(n) if (n as usize) < room.global_ints => Ok(()),
+        _ => Err(AllocError),
+    }
+}
+
+fn buf_in_room(room: Room, p: Buf) -> Result<(), AllocError>
+    ensures { OnOk result (BufInRoom room p) }
+{
+    match p {
+        Buf::Local(n) if (n as usize) < room.bufs => Ok(()),
+        Buf::Global(n) if (n as usize) < room.global_bufs => Ok(()),
+        _ => Err(AllocError),
+    }
+}
+
+#[tactic(auto, using(crate::proofs::Laid::laid_Set))]
+fn lay_set(
+    alloc: Global,
+    room: Room,
+    code: &mut Vec<Node>,
+    x: Int,
+    e: &CExpr,
+    next: usize,
+) -> Result<(), AllocError>
+    ensures { OnOk result (LaidStmt room code.old.items code.new.items (stmt.Set x e.now) next) }
+{
+    int_in_room(room, x)?;
+    let e = copy(alloc, e)?;
+    code.push(Node::Set(x, e, next))?;
+    Ok(())
+}
+
+#[tactic(auto, using(crate::proofs::Laid::laid_SetCell))]
+fn lay_set_cell(
+    alloc: Global,
+    room: Room,
+    code: &mut Vec<Node>,
+    p: Buf,
+    e: &CExpr,
+    f: &CExpr,
+    next: usize,
+) -> Result<(), AllocError>
+    ensures { OnOk result (LaidStmt room code.old.items code.new.items (stmt.SetCell p e.now f.now) next) }
+{
+    let e = copy(alloc, e)?;
+    let f = copy(alloc, f)?;
+    code.push(Node::SetCell(p, e, f, next))?;
+    Ok(())
+}
+
+#[tactic(auto, using(crate::proofs::Laid::laid_SetBuf))]
+fn lay_set_buf(
+    room: Room,
+    code: &mut Vec<Node>,
+    p: Buf,
+    q: Option<Buf>,
+    next: usize,
+) -> Result<(), AllocError>
+    ensures { OnOk result (LaidStmt room code.old.items code.new.items (stmt.SetBuf p q) next) }
+{
+    buf_in_room(room, p)?;
+    code.push(Node::SetBuf(p, q, next))?;
+    Ok(())
+}
+
+#[tactic(auto, using(crate::proofs::Laid::laid_Cells))]
+fn lay_cells(
+    alloc: Global,
+    room: Room,
+    code: &mut Vec<Node>,
+    p: Buf,
+    e: &CExpr,
+    next: usize,
+) -> Result<(), AllocError>
+    ensures { OnOk result (LaidStmt room code.old.items code.new.items (stmt.Cells p e.now) next) }
+{
+    buf_in_room(room, p)?;
+    let e = copy(alloc, e)?;
+    code.push(Node::Cells(p, e, next))?;
+    Ok(())
+}
+
+#[tactic(auto, using(crate::proofs::Laid::laid_Check))]
+fn lay_check(
+    alloc: Global,
+    room: Room,
+    code: &mut Vec<Node>,
+    x: Int,
+    o: Checked,
+    e: &CExpr,
+    f: &CExpr,
+    next: usize,
+) -> Result<(), AllocError>
+    ensures { OnOk result (LaidStmt room code.old.items code.new.items (stmt.Check x o e.now f.now) next) }
+{
+    int_in_room(room, x)?;
+    let e = copy(alloc, e)?;
+    let f = copy(alloc, f)?;
+    code.push(Node::Check(x, o, e, f, next))?;
+    Ok(())
+}
+
+#[tactic(auto, using(crate::proofs::Laid::laid_Width))]
+fn lay_width(
+    alloc: Global,
+    room: Room,
+    code: &mut Vec<Node>,
+    x: Int,
+    e: &CExpr,
+    next: usize,
+) -> Result<(), AllocError>
+    ensures { OnOk result (LaidStmt room code.old.items code.new.items (stmt.Width x e.now) next) }
+{
+    int_in_room(room, x)?;
+    let e = copy(alloc, e)?;
+    code.push(Node::Width(x, e, next))?;
+    Ok(())
+}
+
+#[tactic(auto, using(crate::proofs::Laid::laid_PutNum))]
+fn lay_put_num(
+    alloc: Global,
+    room: Room,
+    code: &mut Vec<Node>,
+    e: &CExpr,
+    f: &CExpr,
+    next: usize,
+) -> Result<(), AllocError>
+    ensures { OnOk result (LaidStmt room code.old.items code.new.items (stmt.PutNum e.now f.now) next) }
+{
+    let e = copy(alloc, e)?;
+    let f = copy(alloc, f)?;
+    code.push(Node::PutNum(e, f, next))?;
+    Ok(())
+}
+
+#[tactic(auto, using(crate::proofs::Laid::laid_PutChar))]
+fn lay_put_char(
+    alloc: Global,
+    room: Room,
+    code: &mut Vec<Node>,
+    e: &CExpr,
+    next: usize,
+) -> Result<(), AllocError>
+    ensures { OnOk result (LaidStmt room code.old.items code.new.items (stmt.PutChar e.now) next) }
+{
+    let e = copy(alloc, e)?;
+    code.push(Node::PutChar(e, next))?;
+    Ok(())
+}
+
+#[tactic(auto, using(crate::proofs::Laid::laid_ReadText))]
+fn lay_read_text(room: Room, code: &mut Vec<Node>, p: Buf, next: usize) -> Result<(), AllocError>
+    ensures { OnOk result (LaidStmt room code.old.items code.new.items (stmt.ReadText p) next) }
+{
+    buf_in_room(room, p)?;
+    code.push(Node::ReadText(p, next))?;
+    Ok(())
+}
+
+#[tactic(auto, using(crate::proofs::Laid::laid_ReadNums))]
+fn lay_read_nums(room: Room, code: &mut Vec<Node>, p: Buf, next: usize) -> Result<(), AllocError>
+    ensures { OnOk result (LaidStmt room code.old.items code.new.items (stmt.ReadNums p) next) }
+{
+    buf_in_room(room, p)?;
+    code.push(Node::ReadNums(p, next))?;
+    Ok(())
+}
+
+#[tactic(auto, using(crate::proofs::Laid::laid_ReadCount))]
+fn lay_read_count(room: Room, code: &mut Vec<Node>, x: Int, next: usize) -> Result<(), AllocError>
+    ensures { OnOk result (LaidStmt room code.old.items code.new.items (stmt.ReadCount x) next) }
+{
+    int_in_room(room, x)?;
+    code.push(Node::ReadCount(x, next))?;
+    Ok(())
+}
+
+#[tactic(auto, using(crate::proofs::Laid::laid_At))]
+fn lay_at(
+    alloc: Global,
+    room: Room,
+    code: &mut Vec<Node>,
+    name: &[u8],
+    line: i64,
+    next: usize,
+) -> Result<(), AllocError>
+    ensures { OnOk result (LaidStmt room code.old.items code.new.items (stmt.At name.now line) next) }
+{
+    let name = copy_name(alloc, name)?;
+    code.push(Node::At(name, line, next))?;
+    Ok(())
+}
+
+fn push_if(
+    alloc: Global,
+    code: &mut Vec<Node>,
+    e: &CExpr,
+    met: usize,
+    other: usize,
+) -> Result<(), AllocError>
+    ensures { OnOk result (code.new.items ≡ code.old.items ++ form.If e.now met other ∷ []) }
+{
+    let e = copy(alloc, e)?;
+    code.push(Node::If(e, met, other))?;
+    Ok(())
+}
+
+fn push_while(
+    alloc: Global,
+    code: &mut Vec<Node>,
+    e: &CExpr,
+    body: usize,
+    next: usize,
+) -> Result<(), AllocError>
+    ensures { OnOk result (code.new.items ≡ code.old.items ++ form.While e.now body next ∷ []) }
+{
+    let e = copy(alloc, e)?;
+    code.push(Node::While(e, body, next))?;
+    Ok(())
+}
+
+fn push_switch(
+    code: &mut Vec<Node>,
+    x: Int,
+    choices: Vec<Choice>,
+    other: usize,
+) -> Result<(), AllocError>
+    ensures { OnOk result (code.new.items ≡ code.old.items ++ form.Switch x choices.items other ∷ []) }
+{
+    code.push(Node::Switch(x, Items::from_vec(choices), other))?;
+    Ok(())
+}
+
+/// The arms' numbers, each with the place where its arm begins. The first arm's statements stand at a place.
+fn place_arms(
+    alloc: Global,
+    at: usize,
+    arms: &[Arm],
+    next: usize,
+) -> Result<Vec<Choice>, AllocError>
+    ensures { IfOk result (λ choices. choices.items ≡ choices_of at arms.now next) }
+{
+    let mut choices = Vec::new(alloc);
+    let mut place = at;
+    for arm in arms {
+        let body = arm.body.as_slice();
+        let here = begin(body, place, next);
+        choices.push(Choice {
+            value: arm.value,
+            at: here,
+        })?;
+        place = after_all(place, body)?;
+    }
+    Ok(choices)
+}
+
+#[cycle(lays)]
+#[tactic(auto, using(crate::proofs::Laid::lays))]
+fn lay_stmt(
+    alloc: Global,
+    room: Room,
+    code: &mut Vec<Node>,
+    x: &CStmt,
+    next: usize,
+) -> Result<(), AllocError>
+    ensures { OnOk result (LaidStmt room code.old.items code.new.items x.now next) }
+{
+    match x {
+        CStmt::Set(x, e) => lay_set(alloc, room, code, *x, e, next),
+        CStmt::SetCell(p, e, f) => lay_set_cell(alloc, room, code, *p, e, f, next),
+        CStmt::SetBuf(p, q) => lay_set_buf(room, code, *p, *q, next),
+        CStmt::Cells(p, e) => lay_cells(alloc, room, code, *p, e, next),
+        CStmt::Check(x, o, e, f) => lay_check(alloc, room, code, *x, *o, e, f, next),
+        CStmt::Width(x, e) => lay_width(alloc, room, code, *x, e, next),
+        CStmt::PutNum(e, f) => lay_put_num(alloc, room, code, e, f, next),
+        CStmt::PutChar(e) => lay_put_char(alloc, room, code, e, next),
+        CStmt::ReadText(p) => lay_read_text(room, code, *p, next),
+        CStmt::ReadNums(p) => lay_read_nums(room, code, *p, next),
+        CStmt::ReadCount(x) => lay_read_count(room, code, *x, next),
+        CStmt::At(name, line) => lay_at(alloc, room, code, name.as_slice(), *line, next),
+        CStmt::Free(p) => {
+            code.push(Node::Free(*p, next))?;
+            Ok(())
+        }
+        CStmt::Fault(kind) => {
+            code.push(Node::Fault(*kind))?;
+            Ok(())
+        }
+        CStmt::Call(f) => {
+            code.push(Node::Call(*f, next))?;
+            Ok(())
+        }
+        CStmt::Return => {
+            code.push(Node::Return)?;
+            Ok(())
+        }
+        CStmt::If(e, a, o) => {
+            let start = next_place(code.len())?;
+            let met = begin(a.as_slice(), start, next);
+            match o {
+                None => {
+                    push_if(alloc, code, e, met, next)?;
+                    lay_block(alloc, room, code, a.as_slice(), next)?;
+                    Ok(())
+                }
+                Some(o) => {
+                    let middle = after_all(start, a.as_slice())?;
+                    let other = begin(o.as_slice(), middle, next);
+                    push_if(alloc, code, e, met, other)?;
+                    lay_block(alloc, room, code, a.as_slice(), next)?;
+                    lay_block(alloc, room, code, o.as_slice(), next)?;
+                    Ok(())
+                }
+            }
+        }
+        CStmt::While(e, a) => {
+            let at = code.len();
+            let start = next_place(at)?;
+            let body = begin(a.as_slice(), start, at);
+            push_while(alloc, code, e, body, next)?;
+            lay_block(alloc, room, code, a.as_slice(), at)?;
+            Ok(())
+        }
+        CStmt::Switch(x, arms, d) => {
+            let start = next_place(code.len())?;
+            let choices = place_arms(alloc, start, arms.as_slice(), next)?;
+            let middle = after_arms(start, arms.as_slice())?;
+            let other = begin(d.as_slice(), middle, next);
+            push_switch(code, *x, choices, other)?;
+            lay_arms(alloc, room, code, arms.as_slice(), next)?;
+            lay_block(alloc, room, code, d.as_slice(), next)?;
+            Ok(())
+        }
+    }
+}
+
+#[cycle(lays)]
+#[tactic(auto, using(crate::proofs::Laid::lays))]
+fn lay_block(
+    alloc: Global,
+    room: Room,
+    code: &mut Vec<Node>,
+    xs: &[CStmt],
+    next: usize,
+) -> Result<(), AllocError>
+    ensures { OnOk result (LaidBlock room code.old.items code.new.items xs.now next) }
+{
+    let count = xs.len();
+    if count == 0 {
+        return Ok(());
+    }
+    let last = count - 1;
+    for i in 0..last {
+        let x = &xs[i];
+        let next_one = after(code.len(), x)?;
+        lay_stmt(alloc, room, code, x, next_one)?;
+    }
+    let x = &xs[last];
+    lay_stmt(alloc, room, code, x, next)?;
+    Ok(())
+}
+
+#[cycle(lays)]
+#[tactic(auto, using(crate::proofs::Laid::lays))]
+fn lay_arms(
+    alloc: Global,
+    room: Room,
+    code: &mut Vec<Node>,
+    arms: &[Arm],
+    next: usize,
+) -> Result<(), AllocError>
+    ensures { OnOk result (LaidArms room code.old.items code.new.items arms.now next) }
+{
+    for arm in arms {
+        lay_block(alloc, room, code, arm.body.as_slice(), next)?;
+    }
+    Ok(())
+}
+
+/// The nodes of all functions, and where each begins.
+#[derive(Drop)]
+struct Placed {
+    nodes: Vec<Node>,
+    entries: Vec<Entry>,
+}
+
+#[tactic(auto, using(crate::proofs::Laid::programs))]
+fn lay_functions(
+    alloc: Global,
+    ints: u32,
+    bufs: u32,
+    functions: &[CFunction],
+) -> Result<Placed, AllocError>
+    ensures { IfOk result (λ l. LaidFunctions (globals ints bufs) l.nodes.items l.entries.items functions.now) }
+{
+    let mut nodes = Vec::new(alloc);
+    let mut entries = Vec::new(alloc);
+    nodes.push(Node::Leave)?;
+    for f in functions {
+        let body = f.body.as_slice();
+        let at = begin(body, nodes.len(), 0);
+        let room = Room {
+            ints: f.ints as usize,
+            bufs: f.bufs as usize,
+            global_ints: ints as usize,
+            global_bufs: bufs as usize,
+        };
+        lay_block(alloc, room, &mut nodes, body, 0)?;
+        entries.push(Entry {
+            at,
+            ints: room.ints,
+            bufs: room.bufs,
+        })?;
+    }
+    Ok(Placed { nodes, entries })
+}
+
+/// Lays a program out, and drops it.
+pub fn lay(alloc: Global, program: CProgram) -> Result<Laid, AllocError>
+    ensures functions { IfOk result (λ l. LaidFunctions (globals program.ints program.bufs) l.nodes.items l.entries.items program.functions) }
+    ensures tables { IfOk result (λ l. l.tables.items ≡ program.tables) }
+{
+    let CProgram {
+        tables,
+        ints,
+        bufs,
+        functions,
+    } = program;
+    let placed = lay_functions(alloc, ints, bufs, functions.as_slice())?;
+    let Placed { nodes, entries } = placed;
+    Ok(Laid {
+        nodes,
+        entries,
+        tables: tables.into_vec(),
+    })
+}

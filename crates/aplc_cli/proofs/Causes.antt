@@ -1,171 +1,336 @@
 -- What the whole of a call says of each status.
-use Rattle.std.proofs.Common.{◌≡◌, ◌≤◌, arith, ℕ, List, Option, None, Some, Result, Ok, Err, refl, sym, ap, subst, ◌∙◌, inl, inr, ⊎_elim, false}
-use Rattle.aplc_io.specs.Outside.{SinkState, HostState, target_of, Rose, IsMissing, sink_with}
+use Rattle.std.proofs.Common.{◌≡◌, ◌⊎◌, ◌≤◌, ◌+◌, arith, ℕ, List, [], Option, None, Some, Result, Ok, Err, refl, sym, ap, subst, ◌∙◌, inl, inr, ⊎_elim, false}
+use Rattle.aplc_io.specs.Outside.{SinkState, SourceState, HostState, target_of, Rose, IsMissing, IsFile, sink_with}
 use Rattle.aplc_io.specs.Parts.{PartWritten, Tried}
 use Rattle.aplc_io.proofs.Sent.{sink_with-nil}
+use Rattle.aplc_cprof.specs.declared.syntax.CProgram.{CProgram}
+use Rattle.aplc_cprof.specs.declared.syntax.StuckCause.{StuckCause}
+use Rattle.aplc_cprof.specs.Behaviour.{Standing, behaviour, output, IsStuck}
+use Rattle.aplc_cprof.specs.Behaviour as standing
 use Rattle.aplc_cli.specs.declared.refusal.Refusal.{Refusal}
 use Rattle.aplc_cli.specs.declared.status.Stop.{Stop}
 use Rattle.aplc_cli.specs.declared.status.Stop.TheVariants as stop
 use Rattle.aplc_cli.specs.declared.status.Status.{Status}
 use Rattle.aplc_cli.specs.declared.status.Status.TheVariants as status
-use Rattle.aplc_cli.specs.Compiled.{refusal}
-use Rattle.aplc_cli.specs.Call.{Command, Sent, outcome, outcome_of, Outside, host_after, Matter, Meets, TextFault, Works, Reports, Ends, refusal_line, IsMissingFile, HasReadCause, HasWriteCause, IsUsage, IsRefused, IsDone, KeepsCounts, IsAnswer, IsLater}
+use Rattle.aplc_cli.specs.declared.words.Action.{Action}
+use Rattle.aplc_cli.specs.declared.words.Action.TheVariants as action
+use Rattle.aplc_cli.specs.Words.{Command}
+use Rattle.aplc_cli.specs.Compiled.{refusal, IsCompiled, IsProgramOf, Judged}
+use Rattle.aplc_cli.specs.Came.{Came, came_of, line, status_of, refusal_line}
+use Rattle.aplc_cli.specs.Came as came
+use Rattle.aplc_cli.specs.Carrying.{Streams, IsInput, Shown, InputFailed, OutputFailed, MemoryWanted}
+use Rattle.aplc_cli.specs.Call.{Sent, sent_for, steps_for, shown_for, came_for, Outcome, outcome_for, outcome_of, Outside, streams, host_after, Matter, IsShown, Meets, TextFault, RunFault, Works, Reports, Ends, IsMissingFile, HasReadCause, HasWriteCause, IsUsage, IsRefused, IsAccepted, IsCompiledOnly, IsRun, IsOfRun, KeepsCounts, IsAnswer, CarriesOut, Executes}
 
-module _ (c : Option Command) (old new : Outside) (e e2 : SinkState) (s : Status) where
-  missing : (cmd : Command) → c ≡ Some cmd → IsMissing old.host.files cmd.name → IsMissingFile c old.host
-  missing cmd is h = subst (λ k. IsMissingFile k old.host) (sym is) h
+-- ---- Which results have a status
 
-  read_from : (r : Result (Unit {0}) Stop) → Works c old new r → Reports r e e2 s → s ≡ status.ReadFault → HasReadCause c old new
-  read_from (Ok done) w (inl t) is = let h = t.0 in cc
-  read_from (Ok done) w (inr t) is = let h = t.0 in cc
-  read_from (Err stop.Usage) w (inl t) is = let h = t.0 in cc
-  read_from (Err stop.Usage) w (inr t) is = let h = t.0 in cc
-  read_from (Err (stop.Refused r)) w (inl t) is = let h = t.0 in cc
-  read_from (Err (stop.Refused r)) w (inr t) is = let h = t.0 in cc
-  read_from (Err stop.ReadFault) w t is = ⊎_elim (λ rose. inl rose) (λ none. inr (missing w.command w.is_command none)) w.fails.cause
-  read_from (Err stop.WriteFault) w t is = let h = t.0 in cc
-  read_from (Err stop.Memory) w (inl t) is = let h = t.0 in cc
-  read_from (Err stop.Memory) w (inr t) is = let h = t.0 in cc
+is_read : (r : Result Came Stop) → status_of r ≡ status.ReadFault → r ≡ Err stop.ReadFault
+is_read (Ok came.Compiled) is = cc
+is_read (Ok came.Ended) is = cc
+is_read (Ok (came.Faulted k f l)) is = cc
+is_read (Ok came.Spent) is = cc
+is_read (Ok (came.Stuck c n)) is = cc
+is_read (Err stop.Usage) is = cc
+is_read (Err (stop.Refused r)) is = cc
+is_read (Err stop.ReadFault) is = refl
+is_read (Err stop.WriteFault) is = cc
+is_read (Err stop.Memory) is = cc
 
-  pub read_cause : Ends c old new e e2 s → s ≡ status.ReadFault → HasReadCause c old new
-  read_cause ends is = read_from ends.result ends.work ends.report is
+is_write : (r : Result Came Stop) → status_of r ≡ status.WriteFault → r ≡ Err stop.WriteFault
+is_write (Ok came.Compiled) is = cc
+is_write (Ok came.Ended) is = cc
+is_write (Ok (came.Faulted k f l)) is = cc
+is_write (Ok came.Spent) is = cc
+is_write (Ok (came.Stuck c n)) is = cc
+is_write (Err stop.Usage) is = cc
+is_write (Err (stop.Refused r)) is = cc
+is_write (Err stop.ReadFault) is = cc
+is_write (Err stop.WriteFault) is = refl
+is_write (Err stop.Memory) is = cc
+
+is_usage : (r : Result Came Stop) → status_of r ≡ status.Usage → r ≡ Err stop.Usage
+is_usage (Ok came.Compiled) is = cc
+is_usage (Ok came.Ended) is = cc
+is_usage (Ok (came.Faulted k f l)) is = cc
+is_usage (Ok came.Spent) is = cc
+is_usage (Ok (came.Stuck c n)) is = cc
+is_usage (Err stop.Usage) is = refl
+is_usage (Err (stop.Refused r)) is = cc
+is_usage (Err stop.ReadFault) is = cc
+is_usage (Err stop.WriteFault) is = cc
+is_usage (Err stop.Memory) is = cc
+
+is_refused : (r : Result Came Stop) → status_of r ≡ status.Refused → (x : Refusal) × (r ≡ Err (stop.Refused x))
+is_refused (Ok came.Compiled) is = cc
+is_refused (Ok came.Ended) is = cc
+is_refused (Ok (came.Faulted k f l)) is = cc
+is_refused (Ok came.Spent) is = cc
+is_refused (Ok (came.Stuck c n)) is = cc
+is_refused (Err stop.Usage) is = cc
+is_refused (Err (stop.Refused r)) is = (r, refl)
+is_refused (Err stop.ReadFault) is = cc
+is_refused (Err stop.WriteFault) is = cc
+is_refused (Err stop.Memory) is = cc
+
+-- the text was handed over, or carried out
+abbrev IsOfText : Status → Type 0
+IsOfText status.Done = Unit {0}
+IsOfText s = IsOfRun s
+
+is_came : (r : Result Came Stop) → IsOfText (status_of r) → (x : Came) × (r ≡ Ok x)
+is_came (Ok x) is = (x, refl)
+is_came (Err stop.Usage) is = absurd is
+is_came (Err (stop.Refused r)) is = absurd is
+is_came (Err stop.ReadFault) is = absurd is
+is_came (Err stop.WriteFault) is = absurd is
+is_came (Err stop.Memory) is = absurd is
+
+no_compiled : (s : Standing) → came.Compiled ≡ came_of s → ⊥
+no_compiled (standing.Ended o) is = cc
+no_compiled (standing.Faulted o k f l) is = cc
+no_compiled (standing.Going o) is = cc
+no_compiled (standing.Stuck o c n) is = cc
+
+stuck_status : (s : Standing) → status_of (Ok (came_of s)) ≡ status.Stuck → IsStuck s
+stuck_status (standing.Ended o) is = cc
+stuck_status (standing.Faulted o k f l) is = cc
+stuck_status (standing.Going o) is = cc
+stuck_status (standing.Stuck o c n) is = tt
+
+module _ (e e2 : SinkState) (s : Status) where
+  -- the line was written whole, or the status is WriteFault
+  abbrev Whole : Result Came Stop → Type 0
+  Whole r = (s ≡ status_of r) × (e2 ≡ sink_with e (line r))
+
+  reported : (r : Result Came Stop) → Reports r e e2 s → Whole r ⊎ (s ≡ status.WriteFault)
+  reported (Ok came.Compiled) t = ⊎_elim (λ w. inl w) (λ w. inr w.0) t
+  reported (Ok came.Ended) t = ⊎_elim (λ w. inl w) (λ w. inr w.0) t
+  reported (Ok (came.Faulted k f l)) t = ⊎_elim (λ w. inl w) (λ w. inr w.0) t
+  reported (Ok came.Spent) t = ⊎_elim (λ w. inl w) (λ w. inr w.0) t
+  reported (Ok (came.Stuck c n)) t = ⊎_elim (λ w. inl w) (λ w. inr w.0) t
+  reported (Err stop.Usage) t = ⊎_elim (λ w. inl w) (λ w. inr w.0) t
+  reported (Err (stop.Refused r)) t = ⊎_elim (λ w. inl w) (λ w. inr w.0) t
+  reported (Err stop.ReadFault) t = ⊎_elim (λ w. inl w) (λ w. inr w.0) t
+  reported (Err stop.WriteFault) t = inr t.0
+  reported (Err stop.Memory) t = ⊎_elim (λ w. inl w) (λ w. inr w.0) t
+
+  whole : (P : Status → Type 0) (r : Result Came Stop) → Reports r e e2 s → P s → (P status.WriteFault → ⊥) → Whole r
+  whole P r t p never = ⊎_elim (λ w. w) (λ is. absurd (never (subst P is p))) (reported r t)
 
   rose_on : (a b d : ℕ) → Rose a b → b ≤ d → Rose a d
   rose_on a b d h le = omega arith
 
   after_part : (l m : List ℕ) (mid : SinkState) → PartWritten l e mid → Tried m mid e2 → Rose e.faults e2.faults
-  after_part l m mid p (inl whole) = let f : e2.faults ≡ mid.faults = ap (λ k. k.faults) whole in rose_on e.faults mid.faults e2.faults p.rose (omega arith)
+  after_part l m mid p (inl all) = let f : e2.faults ≡ mid.faults = ap (λ k. k.faults) all in rose_on e.faults mid.faults e2.faults p.rose (omega arith)
   after_part l m mid p (inr part) = rose_on e.faults mid.faults e2.faults p.rose part.later
 
-  text_rose : TextFault c old new → Rose old.host.text_faults new.host.text_faults
-  text_rose f = ⊎_elim (λ n. n.rose) (λ n. n.rose) f.part
+  -- why the line was not written whole
+  line_failed : (r : Result Came Stop) → Reports r e e2 s → Whole r ⊎ ((r ≡ Err stop.WriteFault) ⊎ Rose e.faults e2.faults)
+  line_failed (Ok came.Compiled) t = ⊎_elim (λ w. inl w) (λ w. inr (inr (after_part _ _ w.1.0 w.1.1 w.1.2))) t
+  line_failed (Ok came.Ended) t = ⊎_elim (λ w. inl w) (λ w. inr (inr (after_part _ _ w.1.0 w.1.1 w.1.2))) t
+  line_failed (Ok (came.Faulted k f l)) t = ⊎_elim (λ w. inl w) (λ w. inr (inr (after_part _ _ w.1.0 w.1.1 w.1.2))) t
+  line_failed (Ok came.Spent) t = ⊎_elim (λ w. inl w) (λ w. inr (inr (after_part _ _ w.1.0 w.1.1 w.1.2))) t
+  line_failed (Ok (came.Stuck c n)) t = ⊎_elim (λ w. inl w) (λ w. inr (inr (after_part _ _ w.1.0 w.1.1 w.1.2))) t
+  line_failed (Err stop.Usage) t = ⊎_elim (λ w. inl w) (λ w. inr (inr (after_part _ _ w.1.0 w.1.1 w.1.2))) t
+  line_failed (Err (stop.Refused r)) t = ⊎_elim (λ w. inl w) (λ w. inr (inr (after_part _ _ w.1.0 w.1.1 w.1.2))) t
+  line_failed (Err stop.ReadFault) t = ⊎_elim (λ w. inl w) (λ w. inr (inr (after_part _ _ w.1.0 w.1.1 w.1.2))) t
+  line_failed (Err stop.WriteFault) t = inr (inl refl)
+  line_failed (Err stop.Memory) t = ⊎_elim (λ w. inl w) (λ w. inr (inr (after_part _ _ w.1.0 w.1.1 w.1.2))) t
 
-  write_from : (r : Result (Unit {0}) Stop) → Works c old new r → Reports r e e2 s → s ≡ status.WriteFault → HasWriteCause old new e e2
-  write_from (Ok done) w (inl t) is = let h = t.0 in cc
-  write_from (Ok done) w (inr t) is = inr (after_part _ _ t.1.0 t.1.1 t.1.2)
-  write_from (Err stop.Usage) w (inl t) is = let h = t.0 in cc
-  write_from (Err stop.Usage) w (inr t) is = inr (after_part _ _ t.1.0 t.1.1 t.1.2)
-  write_from (Err (stop.Refused r)) w (inl t) is = let h = t.0 in cc
-  write_from (Err (stop.Refused r)) w (inr t) is = inr (after_part _ _ t.1.0 t.1.1 t.1.2)
-  write_from (Err stop.ReadFault) w (inl t) is = let h = t.0 in cc
-  write_from (Err stop.ReadFault) w (inr t) is = inr (after_part _ _ t.1.0 t.1.1 t.1.2)
-  write_from (Err stop.WriteFault) w t is = inl (text_rose w)
-  write_from (Err stop.Memory) w (inl t) is = let h = t.0 in cc
-  write_from (Err stop.Memory) w (inr t) is = inr (after_part _ _ t.1.0 t.1.1 t.1.2)
+module _ (c : Option Command) (old new : Outside) (e e2 : SinkState) (s : Status) where
+  -- ---- The causes of faults
+
+  missing : (cmd : Command) → c ≡ Some cmd → IsMissing old.host.files cmd.name → IsMissingFile c old.host
+  missing cmd is h = subst (λ k. IsMissingFile k old.host) (sym is) h
+
+  later_rose : (a b d : ℕ) → a ≡ b → Rose b d → Rose a d
+  later_rose a b d is h = subst (λ k. Rose k d) (sym is) h
+
+  read_from : Works c old new (Err stop.ReadFault) → HasReadCause c old new
+  read_from (inl w) = ⊎_elim (λ rose. inl rose) (λ none. inr (inl (missing w.command w.is_command none))) w.fails.cause
+  read_from (inr w) = inr (inr (later_rose old.input.faults w.stopped.left.faults new.input.faults (sym w.stopped.read.gives.faults) w.stopped.fails.rose, w))
+
+  pub read_cause : Ends c old new e e2 s → s ≡ status.ReadFault → HasReadCause c old new
+  read_cause ends is =
+      let w = whole e e2 s (λ t. t ≡ status.ReadFault) ends.result ends.report is (λ f. cc) in
+      read_from (subst (Works c old new) (is_read ends.result (sym w.0 ∙ is)) ends.work)
+
+  write_from : Works c old new (Err stop.WriteFault) → HasWriteCause old new e e2
+  write_from (inl w) = inl (⊎_elim (λ n. n.rose) (λ n. n.rose) w.part)
+  write_from (inr w) = inr (inl w.stopped.part.rose)
 
   pub write_cause : Ends c old new e e2 s → s ≡ status.WriteFault → HasWriteCause old new e e2
-  write_cause ends is = write_from ends.result ends.work ends.report is
+  write_cause ends is =
+      ⊎_elim (λ w. write_from (subst (Works c old new) (is_write ends.result (sym w.0 ∙ is)) ends.work))
+      (λ f. ⊎_elim (λ r. write_from (subst (Works c old new) r ends.work)) (λ rose. inr (inr rose)) f)
+      (line_failed e e2 s ends.result ends.report)
+
+  -- ---- Nothing changed
+
+  same_world : new.host ≡ old.host → streams new ≡ streams old → new ≡ old
+  same_world h t = ap (λ (x : HostState). record new { host = x }) h ∙ ap (λ (x : Streams). record old { input = x.input; out = x.out }) t
 
   -- ---- The words name no command
 
-  not_usage : (q : Option Refusal) (text : List ℕ) → Err stop.Usage ≡ (outcome_of q text).result → ⊥
-  not_usage None text is = cc
-  not_usage (Some r) text is = cc
+  not_usage : (q : Option Refusal) (a : Action) (text : List ℕ) (p : CProgram) (input : List ℕ) → Err stop.Usage ≡ (outcome_of q a text p input).result → ⊥
+  not_usage None a text p input is = cc
+  not_usage (Some r) a text p input is = cc
 
-  usage_none : (k : Option Command) (file text : List ℕ) → Err stop.Usage ≡ (outcome k file text).result → k ≡ None
-  usage_none None file text is = refl
-  usage_none (Some cmd) file text is = absurd (not_usage (refusal file) text is)
-
-  usage_rest : (k : Option Command) (file text : List ℕ) → k ≡ None → new ≡ record old { host = host_after (outcome k file text).text old.host } → new ≡ old
-  usage_rest k file text none is = is ∙ ap (λ q. record old { host = host_after (outcome q file text).text old.host }) none
-
-  usage_from : (r : Result (Unit {0}) Stop) → Works c old new r → Reports r e e2 s → s ≡ status.Usage → IsUsage c old new e e2
-  usage_from (Ok done) w (inl t) is = let h = t.0 in cc
-  usage_from (Ok done) w (inr t) is = let h = t.0 in cc
-  usage_from (Err stop.Usage) w (inl t) is =
-      let none = usage_none c w.matter.file w.matter.text w.answer in
-      record { command = none; line = t.1; rest = usage_rest c w.matter.file w.matter.text none w.rest }
-  usage_from (Err stop.Usage) w (inr t) is = let h = t.0 in cc
-  usage_from (Err (stop.Refused r)) w (inl t) is = let h = t.0 in cc
-  usage_from (Err (stop.Refused r)) w (inr t) is = let h = t.0 in cc
-  usage_from (Err stop.ReadFault) w (inl t) is = let h = t.0 in cc
-  usage_from (Err stop.ReadFault) w (inr t) is = let h = t.0 in cc
-  usage_from (Err stop.WriteFault) w t is = let h = t.0 in cc
-  usage_from (Err stop.Memory) w (inl t) is = let h = t.0 in cc
-  usage_from (Err stop.Memory) w (inr t) is = let h = t.0 in cc
+  usage_as : (k : Option Command) (m : Matter k old) → k ≡ c → Err stop.Usage ≡ (outcome_for k old m).result → new.host ≡ host_after (outcome_for k old m).text old.host → IsShown (outcome_for k old m).shown (streams old) (streams new) → e2 ≡ sink_with e (line (Err stop.Usage)) → IsUsage c old new e e2
+  usage_as None m k is host shown l = record { command = sym k; line = l; rest = same_world host shown }
+  usage_as (Some cmd) m k is host shown l = absurd (not_usage m.verdict cmd.action m.text m.program m.input is)
 
   pub usage_is : Ends c old new e e2 s → s ≡ status.Usage → IsUsage c old new e e2
-  usage_is ends is = usage_from ends.result ends.work ends.report is
+  usage_is ends is =
+      let w = whole e e2 s (λ t. t ≡ status.Usage) ends.result ends.report is (λ f. cc) in
+      let r = is_usage ends.result (sym w.0 ∙ is) in
+      let m : Meets c old new (Err stop.Usage) = subst (Works c old new) r ends.work in
+      usage_as c m.matter refl m.answer m.host m.shown (w.1 ∙ ap (λ x. sink_with e (line x)) r)
 
   -- ---- A file was refused
 
-  same_refusal : (q : Option Refusal) (text : List ℕ) (r : Refusal) → Err (stop.Refused r) ≡ (outcome_of q text).result → q ≡ Some r
-  same_refusal None text r is = cc
-  same_refusal (Some x) text r is = cc
+  same_refusal : (q : Option Refusal) (a : Action) (text : List ℕ) (p : CProgram) (input : List ℕ) (r : Refusal) → Err (stop.Refused r) ≡ (outcome_of q a text p input).result → q ≡ Some r
+  same_refusal None a text p input r is = cc
+  same_refusal (Some x) a text p input r is = cc
 
-  refused_as : (k : Option Command) (m : Matter k old) (r : Refusal) → k ≡ c → Err (stop.Refused r) ≡ (outcome k m.file m.text).result → new ≡ record old { host = host_after (outcome k m.file m.text).text old.host } → e2 ≡ sink_with e (refusal_line r) → IsRefused c old new e e2
-  refused_as None m r k is rest l = cc
-  refused_as (Some cmd) m r k is rest l =
-      let reason = same_refusal (refusal m.file) m.text r is in
+  refused_as : (k : Option Command) (m : Matter k old) (r : Refusal) → k ≡ c → Err (stop.Refused r) ≡ (outcome_for k old m).result → new.host ≡ host_after (outcome_for k old m).text old.host → IsShown (outcome_for k old m).shown (streams old) (streams new) → e2 ≡ sink_with e (refusal_line r) → IsRefused c old new e e2
+  refused_as None m r k is host shown l = cc
+  refused_as (Some cmd) m r k is host shown l =
+      let reason = same_refusal m.verdict cmd.action m.text m.program m.input r is in
       record {
         command = cmd;
         is_command = sym k;
         file = m.file;
         is_file = m.is_file;
         reason = r;
-        is_reason = reason;
+        is_reason = subst (λ q. Judged cmd.action m.file q m.text m.program) reason m.judged;
         line = l;
-        rest = rest ∙ ap (λ q. record old { host = host_after (outcome_of q m.text).text old.host }) reason;
+        rest = same_world
+            (host ∙ ap (λ q. host_after (outcome_of q cmd.action m.text m.program m.input).text old.host) reason)
+            (subst (λ q. IsShown (outcome_of q cmd.action m.text m.program m.input).shown (streams old) (streams new)) reason shown);
       }
-
-  refused_from : (r : Result (Unit {0}) Stop) → Works c old new r → Reports r e e2 s → s ≡ status.Refused → IsRefused c old new e e2
-  refused_from (Ok done) w (inl t) is = let h = t.0 in cc
-  refused_from (Ok done) w (inr t) is = let h = t.0 in cc
-  refused_from (Err stop.Usage) w (inl t) is = let h = t.0 in cc
-  refused_from (Err stop.Usage) w (inr t) is = let h = t.0 in cc
-  refused_from (Err (stop.Refused r)) w (inl t) is = refused_as c w.matter r refl w.answer w.rest t.1
-  refused_from (Err (stop.Refused r)) w (inr t) is = let h = t.0 in cc
-  refused_from (Err stop.ReadFault) w (inl t) is = let h = t.0 in cc
-  refused_from (Err stop.ReadFault) w (inr t) is = let h = t.0 in cc
-  refused_from (Err stop.WriteFault) w t is = let h = t.0 in cc
-  refused_from (Err stop.Memory) w (inl t) is = let h = t.0 in cc
-  refused_from (Err stop.Memory) w (inr t) is = let h = t.0 in cc
 
   pub refused_is : Ends c old new e e2 s → s ≡ status.Refused → IsRefused c old new e e2
-  refused_is ends is = refused_from ends.result ends.work ends.report is
+  refused_is ends is =
+      let w = whole e e2 s (λ t. t ≡ status.Refused) ends.result ends.report is (λ f. cc) in
+      let r = is_refused ends.result (sym w.0 ∙ is) in
+      let m : Meets c old new (Err (stop.Refused r.0)) = subst (Works c old new) r.1 ends.work in
+      refused_as c m.matter r.0 refl m.answer m.host m.shown (w.1 ∙ ap (λ x. sink_with e (line x)) r.1)
 
-  -- ---- A file was compiled
+  -- ---- A file was accepted, and its program perhaps carried out
 
-  no_refusal : (q : Option Refusal) (text : List ℕ) (done : Unit {0}) → Ok done ≡ (outcome_of q text).result → q ≡ None
-  no_refusal None text done is = refl
-  no_refusal (Some x) text done is = cc
+  no_refusal : (q : Option Refusal) (a : Action) (text : List ℕ) (p : CProgram) (input : List ℕ) (x : Came) → Ok x ≡ (outcome_of q a text p input).result → q ≡ None
+  no_refusal None a text p input x is = refl
+  no_refusal (Some r) a text p input x is = cc
 
-  done_as : (k : Option Command) (m : Matter k old) (done : Unit {0}) → k ≡ c → Ok done ≡ (outcome k m.file m.text).result → new ≡ record old { host = host_after (outcome k m.file m.text).text old.host } → e2 ≡ e → IsDone c old new e e2
-  done_as None m done k is rest l = cc
-  done_as (Some cmd) m done k is rest l =
-      let accepted = no_refusal (refusal m.file) m.text done is in
-      let host : new.host ≡ host_after (Some record { target = target_of None false; bytes = m.text }) old.host =
-      ap (λ (w : Outside). w.host) rest ∙ ap (λ q. host_after (outcome_of q m.text).text old.host) accepted in
-      record {
-        command = cmd;
-        is_command = sym k;
-        file = m.file;
-        is_file = m.is_file;
-        accepted = accepted;
-        text = m.text;
-        compiled = m.compiled accepted;
-        host = host;
-        rest = rest ∙ ap (λ (h : HostState). record old { host = h }) (sym (ap (λ (w : Outside). w.host) rest));
-        err = l;
-      }
+  abbrev Came_to : Came → Type 0
+  Came_to x = (IsCompiledOnly c old new e e2 × (x ≡ came.Compiled)) ⊎ IsRun c old new e e2 (status_of (Ok x))
 
-  done_from : (r : Result (Unit {0}) Stop) → Works c old new r → Reports r e e2 s → s ≡ status.Done → IsDone c old new e e2
-  done_from (Ok done) w (inl t) is = done_as c w.matter done refl w.answer w.rest (t.1 ∙ sink_with-nil e)
-  done_from (Ok done) w (inr t) is = let h = t.0 in cc
-  done_from (Err stop.Usage) w (inl t) is = let h = t.0 in cc
-  done_from (Err stop.Usage) w (inr t) is = let h = t.0 in cc
-  done_from (Err (stop.Refused r)) w (inl t) is = let h = t.0 in cc
-  done_from (Err (stop.Refused r)) w (inr t) is = let h = t.0 in cc
-  done_from (Err stop.ReadFault) w (inl t) is = let h = t.0 in cc
-  done_from (Err stop.ReadFault) w (inr t) is = let h = t.0 in cc
-  done_from (Err stop.WriteFault) w t is = let h = t.0 in cc
-  done_from (Err stop.Memory) w (inl t) is = let h = t.0 in cc
-  done_from (Err stop.Memory) w (inr t) is = let h = t.0 in cc
+  module _ (cmd : Command) (is_command : c ≡ Some cmd) (m : Matter (Some cmd) old) (program : IsProgramOf cmd.action m.file m.text m.program) (host : new.host ≡ host_after (sent_for cmd.action m.text) old.host) where
+    abbrev is_accepted : IsAccepted cmd old new
+    is_accepted = record {
+      file = m.file;
+      is_file = m.is_file;
+      text = m.text;
+      program = m.program;
+      is_program = program;
+      host = host;
+    }
 
-  pub done_is : Ends c old new e e2 s → s ≡ status.Done → IsDone c old new e e2
-  done_is ends is = done_from ends.result ends.work ends.report is
+    compiled_only : cmd.action ≡ action.Compile → streams new ≡ streams old → e2 ≡ sink_with e [] → IsCompiledOnly c old new e e2
+    compiled_only only shown l = record {
+      command = cmd;
+      is_command = is_command;
+      accepted = is_accepted;
+      only = only;
+      rest = ap (λ (x : Streams). record new { input = x.input; out = x.out }) shown;
+      err = l ∙ sink_with-nil e;
+    }
 
-  -- ---- Counts that stay, and what no call touches
+    ran_as : (most : ℕ) (x : Came) → steps_for cmd.action ≡ Some most → x ≡ came_of (behaviour m.program m.input most) → Shown (behaviour m.program m.input most) (streams old) (streams new) → e2 ≡ sink_with e (line (Ok x)) → IsRun c old new e e2 (status_of (Ok x))
+    ran_as most x is came shown l = record {
+      command = cmd;
+      is_command = is_command;
+      accepted = is_accepted;
+      most = most;
+      run = is;
+      input = m.input;
+      is_input = m.is_input;
+      shown = shown;
+      status = ap (λ y. status_of (Ok y)) came;
+      err = l ∙ ap (λ y. sink_with e (line (Ok y))) came;
+    }
+
+    ok_is : (r : Result Came Stop) (a b : Came) → r ≡ Ok a → r ≡ Ok b → a ≡ b
+    ok_is r a b is as_well = cc
+
+    by_steps : (most : ℕ) (x : Came) (r : Result Came Stop) → steps_for cmd.action ≡ Some most → r ≡ Ok x → r ≡ Ok (came_of (behaviour m.program m.input most)) → Shown (behaviour m.program m.input most) (streams old) (streams new) → e2 ≡ sink_with e (line (Ok x)) → Came_to x
+    by_steps most x r is of came_is shown l = inr (ran_as most x is (ok_is r x (came_of (behaviour m.program m.input most)) of came_is) shown l)
+
+    by_action : (a : Action) (x : Came) (r : Result Came Stop) → cmd.action ≡ a → r ≡ Ok x → r ≡ Ok (came_for (shown_for (steps_for a) m.program m.input)) → IsShown (shown_for (steps_for a) m.program m.input) (streams old) (streams new) → e2 ≡ sink_with e (line (Ok x)) → Came_to x
+    by_action action.Compile x r is of came_is shown l =
+        let only = ok_is r x came.Compiled of came_is in
+        inl (compiled_only is shown (l ∙ ap (λ y. sink_with e (line (Ok y))) only), only)
+    by_action (action.Run most) x r is of came_is shown l = by_steps most x r (ap steps_for is) of came_is shown l
+    by_action (action.Exec most) x r is of came_is shown l = by_steps most x r (ap steps_for is) of came_is shown l
+
+  came_as : (k : Option Command) (m : Matter k old) (x : Came) → k ≡ c → Ok x ≡ (outcome_for k old m).result → new.host ≡ host_after (outcome_for k old m).text old.host → IsShown (outcome_for k old m).shown (streams old) (streams new) → e2 ≡ sink_with e (line (Ok x)) → Came_to x
+  came_as None m x k is host shown l = cc
+  came_as (Some cmd) m x k is host shown l =
+      let accepted = no_refusal m.verdict cmd.action m.text m.program m.input x is in
+      by_action cmd (sym k) m
+      (subst (λ q. Judged cmd.action m.file q m.text m.program) accepted m.judged)
+      (host ∙ ap (λ q. host_after (outcome_of q cmd.action m.text m.program m.input).text old.host) accepted)
+      cmd.action x (Ok x) refl refl
+      (is ∙ ap (λ q. (outcome_of q cmd.action m.text m.program m.input).result) accepted)
+      (subst (λ q. IsShown (outcome_of q cmd.action m.text m.program m.input).shown (streams old) (streams new)) accepted shown)
+      l
+
+  came_to : Ends c old new e e2 s → IsOfText s → (x : Came) × (s ≡ status_of (Ok x)) × Came_to x
+  came_to ends is =
+      let w = whole e e2 s IsOfText ends.result ends.report is (λ f. f) in
+      let r = is_came ends.result (subst IsOfText w.0 is) in
+      let m : Meets c old new (Ok r.0) = subst (Works c old new) r.1 ends.work in
+      (r.0, w.0 ∙ ap status_of r.1, came_as c m.matter r.0 refl m.answer m.host m.shown (w.1 ∙ ap (λ x. sink_with e (line x)) r.1))
+
+  done_by : (x : Came) → s ≡ status_of (Ok x) → Came_to x → IsCompiledOnly c old new e e2 ⊎ IsRun c old new e e2 s
+  done_by x is (inl f) = inl f.0
+  done_by x is (inr f) = inr (subst (IsRun c old new e e2) (sym is) f)
+
+  pub done_is : Ends c old new e e2 s → s ≡ status.Done → IsCompiledOnly c old new e e2 ⊎ IsRun c old new e e2 s
+  done_is ends is = let f = came_to ends (subst IsOfText (sym is) tt) in done_by f.0 f.1 f.2
+
+  of_run : (t : Status) → IsOfRun t → IsOfText t
+  of_run status.Done h = tt
+  of_run status.Faulted h = h
+  of_run status.Refused h = h
+  of_run status.Usage h = h
+  of_run status.ReadFault h = h
+  of_run status.WriteFault h = h
+  of_run status.Spent h = h
+  of_run status.Memory h = h
+  of_run status.Stuck h = h
+
+  ran_by : (x : Came) → s ≡ status_of (Ok x) → IsOfRun s → Came_to x → IsRun c old new e e2 s
+  ran_by x is h (inl f) = absurd (subst IsOfRun (is ∙ ap (λ y. status_of (Ok y)) f.1) h)
+  ran_by x is h (inr f) = subst (IsRun c old new e e2) (sym is) f
+
+  pub ran_is : Ends c old new e e2 s → IsOfRun s → IsRun c old new e e2 s
+  ran_is ends h = let f = came_to ends (of_run s h) in ran_by f.0 f.1 h f.2
+
+  -- ---- What was compiled is never stuck
+
+  stuck_by : (a : Action) (file text : List ℕ) (p : CProgram) (most : ℕ) (input : List ℕ) → steps_for a ≡ Some most → IsProgramOf a file text p → IsStuck (behaviour p input most) → (m : ℕ) × (a ≡ action.Exec m)
+  stuck_by action.Compile file text p most input steps program is = cc
+  stuck_by (action.Run m) file text p most input steps program is = absurd ((program.1.alike input).never_stuck most is)
+  stuck_by (action.Exec m) file text p most input steps program is = (m, refl)
+
+  pub stuck_is : Ends c old new e e2 s → s ≡ status.Stuck → Executes c
+  stuck_is ends is =
+      let f = ran_is ends (subst IsOfRun (sym is) tt) in
+      let k = stuck_by f.command.action f.accepted.file f.accepted.text f.accepted.program f.most f.input f.run f.accepted.is_program (stuck_status (behaviour f.accepted.program f.input f.most) (sym f.status ∙ is)) in
+      subst Executes (sym f.is_command) k
+
+  -- ---- Counts that stay
 
   fetch_kept : (t : Option Sent) (h : HostState) → (host_after t h).fetch_faults ≡ h.fetch_faults
   fetch_kept None h = refl
@@ -175,65 +340,117 @@ module _ (c : Option Command) (old new : Outside) (e e2 : SinkState) (s : Status
   text_kept None h = refl
   text_kept (Some t) h = refl
 
-  kept : (r : Result (Unit {0}) Stop) (l : List ℕ) → Meets c old new r → e2 ≡ sink_with e l → KeepsCounts old new e e2
-  kept r l w is = record {
-    fetch = ap (λ (x : Outside). x.host.fetch_faults) w.rest ∙ fetch_kept _ old.host;
-    text = ap (λ (x : Outside). x.host.text_faults) w.rest ∙ text_kept _ old.host;
-    input = ap (λ (x : Outside). x.input.faults) w.rest;
-    out = ap (λ (x : Outside). x.out.faults) w.rest;
+  input_kept : (q : Option Standing) → IsShown q (streams old) (streams new) → new.input.faults ≡ old.input.faults
+  input_kept None h = ap (λ (x : Streams). x.input.faults) h
+  input_kept (Some q) h = h.read.gives.faults
+
+  out_kept : (q : Option Standing) → IsShown q (streams old) (streams new) → new.out.faults ≡ old.out.faults
+  out_kept None h = ap (λ (x : Streams). x.out.faults) h
+  out_kept (Some q) h = ap (λ (x : SinkState). x.faults) h.out
+
+  kept : (r : Result Came Stop) → Meets c old new r → e2 ≡ sink_with e (line r) → KeepsCounts old new e e2
+  kept r w is = record {
+    fetch = ap (λ (x : HostState). x.fetch_faults) w.host ∙ fetch_kept _ old.host;
+    text = ap (λ (x : HostState). x.text_faults) w.host ∙ text_kept _ old.host;
+    input = input_kept _ w.shown;
+    out = out_kept _ w.shown;
     err = ap (λ (k : SinkState). k.faults) is;
   }
 
-  no_answer : (t : Status) → s ≡ t → (IsAnswer t → ⊥) → IsAnswer s → KeepsCounts old new e e2
-  no_answer t is never answer = absurd (never (subst IsAnswer is answer))
-
-  counts_from : (r : Result (Unit {0}) Stop) → Works c old new r → Reports r e e2 s → IsAnswer s → KeepsCounts old new e e2
-  counts_from (Ok done) w (inl t) a = kept (Ok done) _ w t.1
-  counts_from (Ok done) w (inr t) a = no_answer status.WriteFault t.0 (λ n. n) a
-  counts_from (Err stop.Usage) w (inl t) a = kept (Err stop.Usage) _ w t.1
-  counts_from (Err stop.Usage) w (inr t) a = no_answer status.WriteFault t.0 (λ n. n) a
-  counts_from (Err (stop.Refused r)) w (inl t) a = kept (Err (stop.Refused r)) _ w t.1
-  counts_from (Err (stop.Refused r)) w (inr t) a = no_answer status.WriteFault t.0 (λ n. n) a
-  counts_from (Err stop.ReadFault) w (inl t) a = no_answer status.ReadFault t.0 (λ n. n) a
-  counts_from (Err stop.ReadFault) w (inr t) a = no_answer status.WriteFault t.0 (λ n. n) a
-  counts_from (Err stop.WriteFault) w t a = no_answer status.WriteFault t.0 (λ n. n) a
-  counts_from (Err stop.Memory) w (inl t) a = no_answer status.Memory t.0 (λ n. n) a
-  counts_from (Err stop.Memory) w (inr t) a = no_answer status.WriteFault t.0 (λ n. n) a
+  counts_from : (r : Result Came Stop) → Works c old new r → Whole e e2 s r → IsAnswer s → KeepsCounts old new e e2
+  counts_from (Ok x) w t a = kept (Ok x) w t.1
+  counts_from (Err stop.Usage) w t a = kept (Err stop.Usage) w t.1
+  counts_from (Err (stop.Refused r)) w t a = kept (Err (stop.Refused r)) w t.1
+  counts_from (Err stop.ReadFault) w t a = absurd (subst IsAnswer t.0 a)
+  counts_from (Err stop.WriteFault) w t a = absurd (subst IsAnswer t.0 a)
+  counts_from (Err stop.Memory) w t a = absurd (subst IsAnswer t.0 a)
 
   pub counts_kept : Ends c old new e e2 s → IsAnswer s → KeepsCounts old new e e2
-  counts_kept ends a = counts_from ends.result ends.work ends.report a
+  counts_kept ends a = counts_from ends.result ends.work (whole e e2 s IsAnswer ends.result ends.report a (λ f. f)) a
 
-  never : (t : Status) → s ≡ t → (IsLater t → ⊥) → IsLater s → ⊥
-  never t is not_later later = not_later (subst IsLater is later)
+  -- ---- What no command without a run touches
 
-  later_from : (r : Result (Unit {0}) Stop) → Reports r e e2 s → IsLater s → ⊥
-  later_from (Ok done) (inl t) l = never status.Done t.0 (λ n. n) l
-  later_from (Ok done) (inr t) l = never status.WriteFault t.0 (λ n. n) l
-  later_from (Err stop.Usage) (inl t) l = never status.Usage t.0 (λ n. n) l
-  later_from (Err stop.Usage) (inr t) l = never status.WriteFault t.0 (λ n. n) l
-  later_from (Err (stop.Refused r)) (inl t) l = never status.Refused t.0 (λ n. n) l
-  later_from (Err (stop.Refused r)) (inr t) l = never status.WriteFault t.0 (λ n. n) l
-  later_from (Err stop.ReadFault) (inl t) l = never status.ReadFault t.0 (λ n. n) l
-  later_from (Err stop.ReadFault) (inr t) l = never status.WriteFault t.0 (λ n. n) l
-  later_from (Err stop.WriteFault) t l = never status.WriteFault t.0 (λ n. n) l
-  later_from (Err stop.Memory) (inl t) l = never status.Memory t.0 (λ n. n) l
-  later_from (Err stop.Memory) (inr t) l = never status.WriteFault t.0 (λ n. n) l
+  abbrev Untouched : Type 0
+  Untouched = (new.input ≡ old.input) × (new.out ≡ old.out)
 
-  pub never_later : Ends c old new e e2 s → IsLater s → ⊥
-  never_later ends l = later_from ends.result ends.report l
+  streams_same : streams new ≡ streams old → Untouched
+  streams_same h = (ap (λ (x : Streams). x.input) h, ap (λ (x : Streams). x.out) h)
 
-  rest_from : (r : Result (Unit {0}) Stop) → Works c old new r → (new.input ≡ old.input) × (new.out ≡ old.out)
-  rest_from (Ok done) w = (ap (λ (x : Outside). x.input) w.rest, ap (λ (x : Outside). x.out) w.rest)
-  rest_from (Err stop.Usage) w = (ap (λ (x : Outside). x.input) w.rest, ap (λ (x : Outside). x.out) w.rest)
-  rest_from (Err (stop.Refused r)) w = (ap (λ (x : Outside). x.input) w.rest, ap (λ (x : Outside). x.out) w.rest)
-  rest_from (Err stop.ReadFault) w = (ap (λ (x : Outside). x.input) w.rest, ap (λ (x : Outside). x.out) w.rest)
-  rest_from (Err stop.WriteFault) w = (ap (λ (x : Outside). x.input) w.rest, ap (λ (x : Outside). x.out) w.rest)
-  rest_from (Err stop.Memory) w = (ap (λ (x : Outside). x.input) w, ap (λ (x : Outside). x.out) w)
+  world_same : (w : Outside) → new ≡ w → streams w ≡ streams old → Untouched
+  world_same w is h = streams_same (ap streams is ∙ h)
 
-  -- no answer touches the input or the output
-  pub untouched : Ends c old new e e2 s → (new.input ≡ old.input) × (new.out ≡ old.out)
-  untouched ends = rest_from ends.result ends.work
+  no_run : (cmd : Command) (most : ℕ) → c ≡ Some cmd → steps_for cmd.action ≡ Some most → (CarriesOut c → ⊥) → Untouched
+  no_run cmd most is steps never = absurd (never (subst CarriesOut (sym is) (most, steps)))
+
+  accepted_quiet : (a : Action) (p : CProgram) (input : List ℕ) → (((m : ℕ) × (steps_for a ≡ Some m)) → ⊥) → IsShown (shown_for (steps_for a) p input) (streams old) (streams new) → Untouched
+  accepted_quiet action.Compile p input never shown = streams_same shown
+  accepted_quiet (action.Run m) p input never shown = absurd (never (m, refl))
+  accepted_quiet (action.Exec m) p input never shown = absurd (never (m, refl))
+
+  outcome_quiet : (q : Option Refusal) (a : Action) (text : List ℕ) (p : CProgram) (input : List ℕ) → (((m : ℕ) × (steps_for a ≡ Some m)) → ⊥) → IsShown (outcome_of q a text p input).shown (streams old) (streams new) → Untouched
+  outcome_quiet None a text p input never shown = accepted_quiet a p input never shown
+  outcome_quiet (Some r) a text p input never shown = streams_same shown
+
+  meets_quiet : (k : Option Command) (m : Matter k old) → (CarriesOut k → ⊥) → IsShown (outcome_for k old m).shown (streams old) (streams new) → Untouched
+  meets_quiet None m never shown = streams_same shown
+  meets_quiet (Some cmd) m never shown = outcome_quiet m.verdict cmd.action m.text m.program m.input never shown
+
+  quiet_from : (r : Result Came Stop) → Works c old new r → (CarriesOut c → ⊥) → Untouched
+  quiet_from (Ok x) w never = meets_quiet c w.matter never w.shown
+  quiet_from (Err stop.Usage) w never = meets_quiet c w.matter never w.shown
+  quiet_from (Err (stop.Refused r)) w never = meets_quiet c w.matter never w.shown
+  quiet_from (Err stop.ReadFault) (inl w) never = world_same (record old { host = new.host }) w.rest refl
+  quiet_from (Err stop.ReadFault) (inr w) never = no_run w.command w.most w.is_command w.is_run never
+  quiet_from (Err stop.WriteFault) (inl w) never = world_same (record old { host = new.host }) w.rest refl
+  quiet_from (Err stop.WriteFault) (inr w) never = no_run w.command w.most w.is_command w.is_run never
+  quiet_from (Err stop.Memory) (inl w) never = world_same old w refl
+  quiet_from (Err stop.Memory) (inr w) never = no_run w.command w.most w.is_command w.is_run never
+
+  pub untouched : Ends c old new e e2 s → (CarriesOut c → ⊥) → Untouched
+  untouched ends never = quiet_from ends.result ends.work never
+
+  -- ---- What `--exec` never touches
+
+  abbrev NoText : Type 0
+  NoText = (new.host.text ≡ old.host.text) × (new.host.target ≡ old.host.target)
+
+  host_same : (h : HostState) → new.host ≡ h → h.text ≡ old.host.text → h.target ≡ old.host.target → NoText
+  host_same h is text target = (ap (λ (x : HostState). x.text) is ∙ text, ap (λ (x : HostState). x.target) is ∙ target)
+
+  none_sent : (a : Action) (text : List ℕ) → ((m : ℕ) × (a ≡ action.Exec m)) → sent_for a text ≡ None
+  none_sent a text is = ap (λ x. sent_for x text) is.1
+
+  nothing_sent : (q : Option Refusal) (a : Action) (text : List ℕ) (p : CProgram) (input : List ℕ) → ((m : ℕ) × (a ≡ action.Exec m)) → (outcome_of q a text p input).text ≡ None
+  nothing_sent None a text p input is = none_sent a text is
+  nothing_sent (Some r) a text p input is = refl
+
+  unsent_as : (k : Option Command) (m : Matter k old) → Executes k → (outcome_for k old m).text ≡ None
+  unsent_as None m is = absurd is
+  unsent_as (Some cmd) m is = nothing_sent m.verdict cmd.action m.text m.program m.input is
+
+  of_none : (t : Option Sent) → new.host ≡ host_after t old.host → t ≡ None → NoText
+  of_none t is none = host_same old.host (is ∙ ap (λ x. host_after x old.host) none) refl refl
+
+  of_fault : (cmd : Command) (text : List ℕ) → c ≡ Some cmd → new.host ≡ host_after (sent_for cmd.action text) old.host → Executes c → NoText
+  of_fault cmd text is host h = of_none (sent_for cmd.action text) host (none_sent cmd.action text (subst Executes is h))
+
+  is_sent : (t : Option Sent) (sent : Sent) → t ≡ Some sent → t ≡ None → ⊥
+  is_sent t sent some none = cc
+
+  text_from : (r : Result Came Stop) → Works c old new r → Executes c → NoText
+  text_from (Ok x) w h = of_none _ w.host (unsent_as c w.matter h)
+  text_from (Err stop.Usage) w h = of_none _ w.host (unsent_as c w.matter h)
+  text_from (Err (stop.Refused r)) w h = of_none _ w.host (unsent_as c w.matter h)
+  text_from (Err stop.ReadFault) (inl w) h = host_same (record old.host { fetch_faults = new.host.fetch_faults }) w.fails.same refl refl
+  text_from (Err stop.ReadFault) (inr w) h = of_fault w.command w.matter.text w.is_command w.host h
+  text_from (Err stop.WriteFault) (inl w) h = absurd (is_sent _ w.sent w.is_sent (unsent_as c w.matter h))
+  text_from (Err stop.WriteFault) (inr w) h = of_fault w.command w.matter.text w.is_command w.host h
+  text_from (Err stop.Memory) (inl w) h = host_same old.host (ap (λ (x : Outside). x.host) w) refl refl
+  text_from (Err stop.Memory) (inr w) h = of_fault w.command w.matter.text w.is_command w.host h
+
+  pub no_text : Ends c old new e e2 s → Executes c → NoText
+  no_text ends h = text_from ends.result ends.work h
 
   -- the two halves of a call, whose words may be spelled in another way
-  pub ends_by : (k : Option Command) (r : Result (Unit {0}) Stop) → k ≡ c → Works k old new r → Reports r e e2 s → Ends c old new e e2 s
+  pub ends_by : (k : Option Command) (r : Result Came Stop) → k ≡ c → Works k old new r → Reports r e e2 s → Ends c old new e e2 s
   ends_by k r is w t = record { result = r; work = subst (λ k. Works k old new r) is w; report = t }

@@ -10,3 +10,4 @@ pub mod ReadingParts
 pub mod ReadingPlace
 pub mod ReadingSpelling
 pub mod Simulation
+mod RunEnds

@@ -19,6 +19,6 @@ refused_at file place le e = short_refusal file le ∙ ap refused_later e
 pub accepted : (file : List ℕ) (lines : List Line) → length file ≤ 262144 → source_of file ≡ Ok lines → refusal file ≡ None
 accepted file lines le e = short_refusal file le ∙ ap refused_later e
 
-pub compiled : (file text : List ℕ) (lines : List Line) (p : CProgram) → source_of file ≡ Ok lines → text ≡ program_text p → IsWellFormed p → ((input : List ℕ) → Alike (source_behaviour lines input) (behaviour p input)) → IsCompiled file text
+pub compiled : (file text : List ℕ) (lines : List Line) (p : CProgram) → source_of file ≡ Ok lines → text ≡ program_text p → IsWellFormed p → ((input : List ℕ) → Alike (source_behaviour lines input) (behaviour p input)) → IsCompiled file text p
 compiled file text lines p e t formed alike =
-    record { lines = lines; is_source = e; program = p; is_text = record { well_formed = formed; text = t }; alike = alike }
+    record { lines = lines; is_source = e; is_text = record { well_formed = formed; text = t }; alike = alike }

@@ -1,29 +1,20 @@
 -- What a call of the program comes to.
-use Rattle.std.specs.Prelude.{◌≡◌, ◌⊎◌, ℕ, ◌≤◌, Bool, false, not, nat_eq, if◌then◌else◌, List, [], ◌∷◌, ◌++◌, take, length, ◌<◌, Option, None, Some, Result, Ok, Err, codes}
-use Rattle.std.specs.Fmt.{decimal}
+use Rattle.std.specs.Prelude.{◌≡◌, ◌⊎◌, ℕ, ◌≤◌, false, true, List, [], take, length, ◌<◌, Option, None, Some, Result, Ok, Err}
 use Rattle.aplc_io.specs.Outside.{SourceState, SinkState, HostState, Target, target_of, Rose, IsFile, FetchFails, IsMissing, set_to, sink_with}
 use Rattle.aplc_io.specs.Parts.{PartWritten, Tried}
+use Rattle.aplc_cprof.specs.declared.syntax.CProgram.{CProgram}
+use Rattle.aplc_cprof.specs.Behaviour.{Standing, behaviour, output}
 use Rattle.aplc_cli.specs.declared.refusal.Refusal.{Refusal}
 use Rattle.aplc_cli.specs.declared.status.Stop.{Stop}
 use Rattle.aplc_cli.specs.declared.status.Stop.TheVariants as stop
 use Rattle.aplc_cli.specs.declared.status.Status.{Status}
 use Rattle.aplc_cli.specs.declared.status.Status.TheVariants as status
-use Rattle.aplc_cli.specs.Compiled.{refusal, IsCompiled, source_limit}
-
--- ---- The words
-
--- what the words ask for: the file of this name, compiled
-pub record Command : Type 0 where
-  pub name : List ℕ
-
--- a word that can name a file: not empty, and without `-` at its front
-abbrev pub is_name : List ℕ → Bool
-is_name [] = false
-is_name (b ∷ bs) = not (nat_eq b 45)
-
-abbrev pub command : List (List ℕ) → Option Command
-command (name ∷ []) = if is_name name then Some record { name = name } else None
-command _ = None
+use Rattle.aplc_cli.specs.declared.words.Action.{Action}
+use Rattle.aplc_cli.specs.declared.words.Action.TheVariants as action
+use Rattle.aplc_cli.specs.Words.{Command}
+use Rattle.aplc_cli.specs.Compiled.{refusal, IsCompiled, HasReason, IsProgramOf, Judged}
+use Rattle.aplc_cli.specs.Came.{Came, Compiled, came_of, line, status_of, usage_line, refusal_line}
+use Rattle.aplc_cli.specs.Carrying.{Streams, IsInput, Shown, InputFailed, MemoryWanted, OutputFailed, Carried}
 
 -- ---- The outside, before and after
 
@@ -31,6 +22,9 @@ pub record Outside : Type 0 where
   pub host : HostState
   pub input : SourceState
   pub out : SinkState
+
+abbrev pub streams : Outside → Streams
+streams w = record { input = w.input; out = w.out }
 
 -- a text, and where it goes
 pub record Sent : Type 0 where
@@ -41,59 +35,47 @@ abbrev pub host_after : Option Sent → HostState → HostState
 host_after None h = h
 host_after (Some s) h = record h { text = set_to h.text s.bytes; target = set_to h.target (Some s.target) }
 
--- ---- The definition: what a command, a file and its text make
+-- ---- The definition: what a command, a file, its text and the input make
+
+-- the text that is handed over, and where it goes
+abbrev pub sent_for : Action → List ℕ → Option Sent
+sent_for action.Compile text = Some record { target = target_of None false; bytes = text }
+sent_for (action.Run m) text = Some record { target = target_of None true; bytes = text }
+sent_for (action.Exec m) text = None
+
+-- how many steps a text is carried out for at most, where it is carried out
+abbrev pub steps_for : Action → Option ℕ
+steps_for action.Compile = None
+steps_for (action.Run m) = Some m
+steps_for (action.Exec m) = Some m
+
+-- what its run shows
+abbrev pub shown_for : Option ℕ → CProgram → List ℕ → Option Standing
+shown_for None p input = None
+shown_for (Some m) p input = Some (behaviour p input m)
+
+abbrev pub came_for : Option Standing → Came
+came_for None = Compiled
+came_for (Some s) = came_of s
 
 pub record Outcome : Type 0 where
-  pub result : Result (Unit {0}) Stop
+  pub result : Result Came Stop
   pub text : Option Sent
+  pub shown : Option Standing
 
-abbrev pub outcome_of : Option Refusal → List ℕ → Outcome
-outcome_of (Some r) text = record { result = Err (stop.Refused r); text = None }
-outcome_of None text = record { result = Ok tt; text = Some record { target = target_of None false; bytes = text } }
+abbrev pub accepted_outcome : Option Sent → Option Standing → Outcome
+accepted_outcome sent shown = record { result = Ok (came_for shown); text = sent; shown = shown }
 
-abbrev pub outcome : Option Command → List ℕ → List ℕ → Outcome
-outcome None file text = record { result = Err stop.Usage; text = None }
-outcome (Some c) file text = outcome_of (refusal file) text
+abbrev pub stopped_outcome : Stop → Outcome
+stopped_outcome s = record { result = Err s; text = None; shown = None }
 
--- ---- The line on err, and the status
+abbrev pub outcome_of : Option Refusal → Action → List ℕ → CProgram → List ℕ → Outcome
+outcome_of (Some r) a text p input = stopped_outcome (stop.Refused r)
+outcome_of None a text p input = accepted_outcome (sent_for a text) (shown_for (steps_for a) p input)
 
-abbrev pub refusal_word : ℕ → List ℕ
-refusal_word n = if nat_eq n 23 then codes "TOO LONG" else codes "LATER"
-
-abbrev pub usage_line : List ℕ
-usage_line =
-    codes "usage: aplc [-o NAME] FILE; aplc --run [--steps M] [--stats] [-o NAME] FILE; aplc --check FILE; "
-    ++ codes "aplc --exec [--steps M] [--stats] FILE; aplc --make N\n"
-
-abbrev pub refusal_line : Refusal → List ℕ
-refusal_line r = codes "REFUSED " ++ (decimal r.number ++ (codes " " ++ (refusal_word r.number ++ (codes " AT " ++ (decimal r.place ++ codes "\n")))))
-
-abbrev pub line : Result (Unit {0}) Stop → List ℕ
-line (Ok done) = []
-line (Err stop.Usage) = usage_line
-line (Err (stop.Refused r)) = refusal_line r
-line (Err stop.ReadFault) = codes "READ FAULT\n"
-line (Err stop.WriteFault) = codes "WRITE FAULT\n"
-line (Err stop.Memory) = codes "NO MEMORY\n"
-
-abbrev pub status_of : Result (Unit {0}) Stop → Status
-status_of (Ok done) = status.Done
-status_of (Err stop.Usage) = status.Usage
-status_of (Err (stop.Refused r)) = status.Refused
-status_of (Err stop.ReadFault) = status.ReadFault
-status_of (Err stop.WriteFault) = status.WriteFault
-status_of (Err stop.Memory) = status.Memory
-
-abbrev pub code_of : Status → ℕ
-code_of status.Done = 0
-code_of status.Faulted = 1
-code_of status.Refused = 2
-code_of status.Usage = 3
-code_of status.ReadFault = 4
-code_of status.WriteFault = 5
-code_of status.Spent = 6
-code_of status.Memory = 7
-code_of status.Stuck = 8
+abbrev pub outcome : Option Command → Option Refusal → List ℕ → CProgram → List ℕ → Outcome
+outcome None verdict text p input = stopped_outcome stop.Usage
+outcome (Some c) verdict text p input = outcome_of verdict c.action text p input
 
 -- ---- A whole call
 
@@ -101,21 +83,36 @@ abbrev pub IsFileOf : Option Command → HostState → List ℕ → Type 0
 IsFileOf None h file = Unit {0}
 IsFileOf (Some c) h file = IsFile h c.name file
 
--- What a call has to do with: a file, which the host has where it tells its files, and what it is compiled to.
+abbrev pub JudgedFor : Option Command → List ℕ → Option Refusal → List ℕ → CProgram → Type 0
+JudgedFor None file verdict text program = Unit {0}
+JudgedFor (Some c) file verdict text program = Judged c.action file verdict text program
+
+-- What a call has to do with: a file, which the host has where it tells its files; its refusal, if any; the program
+-- that is made of it or read from it, and the text that is handed over; and the input, which is what the source has
+-- where it tells that.
 pub record Matter (c : Option Command) (old : Outside) : Type 0 where
   pub file : List ℕ
+  pub verdict : Option Refusal
   pub text : List ℕ
+  pub program : CProgram
+  pub input : List ℕ
   pub is_file : IsFileOf c old.host file
-  pub compiled : refusal file ≡ None → IsCompiled file text
+  pub judged : JudgedFor c file verdict text program
+  pub is_input : IsInput old.input input
 
 abbrev pub outcome_for : (c : Option Command) (old : Outside) → Matter c old → Outcome
-outcome_for c old m = outcome c m.file m.text
+outcome_for c old m = outcome c m.verdict m.text m.program m.input
+
+abbrev pub IsShown : Option Standing → Streams → Streams → Type 0
+IsShown None old new = new ≡ old
+IsShown (Some s) old new = Shown s old new
 
 -- all as the definition says, and nothing else changed
-pub record Meets (c : Option Command) (old new : Outside) (result : Result (Unit {0}) Stop) : Type 0 where
+pub record Meets (c : Option Command) (old new : Outside) (result : Result Came Stop) : Type 0 where
   pub matter : Matter c old
   pub answer : result ≡ (outcome_for c old matter).result
-  pub rest : new ≡ record old { host = host_after (outcome_for c old matter).text old.host }
+  pub host : new.host ≡ host_after (outcome_for c old matter).text old.host
+  pub shown : IsShown (outcome_for c old matter).shown (streams old) (streams new)
 
 -- the file could not be fetched, and nothing else changed
 pub record FetchFault (c : Option Command) (old new : Outside) : Type 0 where
@@ -149,42 +146,61 @@ pub record TextFault (c : Option Command) (old new : Outside) : Type 0 where
   pub part : PartSent sent old.host new.host
   pub rest : new ≡ record old { host = new.host }
 
+-- the text, if one is handed over, was handed over whole, and then something stopped the run
+pub record RunFault (Stopped : CProgram → List ℕ → ℕ → Streams → Streams → Type 0) (c : Option Command) (old new : Outside) : Type 0 where
+  pub matter : Matter c old
+  pub command : Command
+  pub is_command : c ≡ Some command
+  pub accepted : matter.verdict ≡ None
+  pub most : ℕ
+  pub is_run : steps_for command.action ≡ Some most
+  pub host : new.host ≡ host_after (sent_for command.action matter.text) old.host
+  pub stopped : Stopped matter.program matter.input most (streams old) (streams new)
+
 -- The work of a call: as the definition says, or as far as a fault let it. Want of memory comes before any
--- change.
-abbrev pub Works : Option Command → Outside → Outside → Result (Unit {0}) Stop → Type 0
-Works c old new (Err stop.ReadFault) = FetchFault c old new
-Works c old new (Err stop.WriteFault) = TextFault c old new
-Works c old new (Err stop.Memory) = new ≡ old
+-- change, or in a run.
+abbrev pub Works : Option Command → Outside → Outside → Result Came Stop → Type 0
+Works c old new (Err stop.ReadFault) = FetchFault c old new ⊎ RunFault InputFailed c old new
+Works c old new (Err stop.WriteFault) = TextFault c old new ⊎ RunFault OutputFailed c old new
+Works c old new (Err stop.Memory) = (new ≡ old) ⊎ RunFault MemoryWanted c old new
 Works c old new result = Meets c old new result
 
 -- The line on err, whole; or a part of it, and then WRITE FAULT tried once.
-abbrev pub Reports : Result (Unit {0}) Stop → SinkState → SinkState → Status → Type 0
+abbrev pub Reports : Result Came Stop → SinkState → SinkState → Status → Type 0
 Reports (Err stop.WriteFault) old new s = (s ≡ status.WriteFault) × Tried (line (Err stop.WriteFault)) old new
 Reports result old new s =
     ((s ≡ status_of result) × (new ≡ sink_with old (line result)))
     ⊎ ((s ≡ status.WriteFault) × ((mid : SinkState) × PartWritten (line result) old mid × Tried (line (Err stop.WriteFault)) mid new))
 
 pub record Ends (c : Option Command) (old new : Outside) (old_err new_err : SinkState) (s : Status) : Type 0 where
-  pub result : Result (Unit {0}) Stop
+  pub result : Result Came Stop
   pub work : Works c old new result
   pub report : Reports result old_err new_err s
 
 -- ---- The steps of the work
 
--- a file that was fetched, or why it was not
-abbrev pub Fetched : List ℕ → HostState → HostState → Result (List ℕ) Stop → Type 0
-Fetched name old new (Ok file) = (new ≡ old) × IsFile old name file × (length file ≤ source_limit)
-Fetched name old new (Err stop.ReadFault) = FetchFails name old new
-Fetched name old new (Err (stop.Refused r)) = (new ≡ old) × ((file : List ℕ) × IsFile old name file × (refusal file ≡ Some r))
-Fetched name old new (Err stop.Memory) = new ≡ old
-Fetched name old new result = ⊥
+-- a file of at most so many bytes that was fetched, or why it was not; one that is longer has this refusal
+abbrev pub Fetched : Refusal → List ℕ → HostState → HostState → Result (List ℕ) Stop → Type 0
+Fetched long name old new (Ok file) = (new ≡ old) × IsFile old name file × (length file ≤ long.place)
+Fetched long name old new (Err stop.ReadFault) = FetchFails name old new
+Fetched long name old new (Err (stop.Refused r)) = (new ≡ old) × (r ≡ long) × ((file : List ℕ) × IsFile old name file × (long.place < length file))
+Fetched long name old new (Err stop.Memory) = new ≡ old
+Fetched long name old new result = ⊥
 
--- a file that was compiled, or why it was not
-abbrev pub Compiles : List ℕ → Result (List ℕ) Stop → Type 0
-Compiles file (Ok text) = (refusal file ≡ None) × IsCompiled file text
+-- a file that was compiled to a program and its text, or why it was not
+abbrev pub Compiles : List ℕ → Result (CProgram × List ℕ) Stop → Type 0
+Compiles file (Ok made) = (refusal file ≡ None) × IsCompiled file made.1 made.0
 Compiles file (Err (stop.Refused r)) = refusal file ≡ Some r
 Compiles file (Err stop.Memory) = Unit {0}
 Compiles file result = ⊥
+
+-- the program and the text of the file of a name, or why there are none
+abbrev pub Made : Action → List ℕ → HostState → HostState → Result (CProgram × List ℕ) Stop → Type 0
+Made a name old new (Ok made) = (new ≡ old) × ((file : List ℕ) × IsFile old name file × IsProgramOf a file made.1 made.0)
+Made a name old new (Err stop.ReadFault) = FetchFails name old new
+Made a name old new (Err (stop.Refused r)) = (new ≡ old) × ((file : List ℕ) × IsFile old name file × HasReason a file r)
+Made a name old new (Err stop.Memory) = new ≡ old
+Made a name old new result = ⊥
 
 -- the text is in the host, or a part of it
 abbrev pub Sends : Sent → HostState → HostState → Result (Unit {0}) Stop → Type 0
@@ -192,9 +208,19 @@ Sends sent old new (Ok done) = new ≡ host_after (Some sent) old
 Sends sent old new (Err stop.WriteFault) = PartSent sent old new
 Sends sent old new result = ⊥
 
-abbrev pub result_map : {T U E : Type 0} → (T → U) → Result T E → Result U E
-result_map f (Ok x) = Ok (f x)
-result_map f (Err e) = Err e
+-- a program was carried out, behind its text if one is handed over
+abbrev pub HandedOver : Option Sent → CProgram → ℕ → Outside → Outside → Result Came Stop → Type 0
+HandedOver sent p most old new r = (new.host ≡ host_after sent old.host) × Carried p most (streams old) (streams new) r
+
+abbrev pub PartHanded : Option Sent → Outside → Outside → Type 0
+PartHanded None old new = ⊥
+PartHanded (Some sent) old new = PartSent sent old.host new.host × (streams new ≡ streams old)
+
+-- the same, or the text could not be handed over, or memory was wanting before any change
+abbrev pub RanText : Option Sent → CProgram → ℕ → Outside → Outside → Result Came Stop → Type 0
+RanText sent p most old new (Err stop.WriteFault) = PartHanded sent old new ⊎ HandedOver sent p most old new (Err stop.WriteFault)
+RanText sent p most old new (Err stop.Memory) = (new ≡ old) ⊎ HandedOver sent p most old new (Err stop.Memory)
+RanText sent p most old new r = HandedOver sent p most old new r
 
 -- ---- What follows for each status, for readers of the contract
 
@@ -202,13 +228,17 @@ abbrev pub IsMissingFile : Option Command → HostState → Type 0
 IsMissingFile None h = ⊥
 IsMissingFile (Some c) h = IsMissing h.files c.name
 
--- why a read may fail
+-- why a read may fail: the fetch met a fault or found no file, or the input failed in a run at a statement that reads
 abbrev pub HasReadCause : Option Command → Outside → Outside → Type 0
-HasReadCause c old new = Rose old.host.fetch_faults new.host.fetch_faults ⊎ IsMissingFile c old.host
+HasReadCause c old new =
+    Rose old.host.fetch_faults new.host.fetch_faults
+    ⊎ (IsMissingFile c old.host ⊎ (Rose old.input.faults new.input.faults × RunFault InputFailed c old new))
 
 -- why a write may fail
 abbrev pub HasWriteCause : Outside → Outside → SinkState → SinkState → Type 0
-HasWriteCause old new old_err new_err = Rose old.host.text_faults new.host.text_faults ⊎ Rose old_err.faults new_err.faults
+HasWriteCause old new old_err new_err =
+    Rose old.host.text_faults new.host.text_faults
+    ⊎ (Rose old.out.faults new.out.faults ⊎ Rose old_err.faults new_err.faults)
 
 -- a file was refused for this: err has the line, and all else is as at entry
 pub record IsRefused (c : Option Command) (old new : Outside) (old_err new_err : SinkState) : Type 0 where
@@ -217,22 +247,48 @@ pub record IsRefused (c : Option Command) (old new : Outside) (old_err new_err :
   pub file : List ℕ
   pub is_file : IsFile old.host command.name file
   pub reason : Refusal
-  pub is_reason : refusal file ≡ Some reason
+  pub is_reason : HasReason command.action file reason
   pub line : new_err ≡ sink_with old_err (refusal_line reason)
   pub rest : new ≡ old
 
--- a file was compiled: the whole text is in the host, behind its target, and all else is as at entry
-pub record IsDone (c : Option Command) (old new : Outside) (old_err new_err : SinkState) : Type 0 where
-  pub command : Command
-  pub is_command : c ≡ Some command
+-- a file was accepted: if a text is handed over, the host has it whole, behind its target
+pub record IsAccepted (command : Command) (old new : Outside) : Type 0 where
   pub file : List ℕ
   pub is_file : IsFile old.host command.name file
-  pub accepted : refusal file ≡ None
   pub text : List ℕ
-  pub compiled : IsCompiled file text
-  pub host : new.host ≡ host_after (Some record { target = target_of None false; bytes = text }) old.host
+  pub program : CProgram
+  pub is_program : IsProgramOf command.action file text program
+  pub host : new.host ≡ host_after (sent_for command.action text) old.host
+
+-- no more was asked for: all else is as at entry
+pub record IsCompiledOnly (c : Option Command) (old new : Outside) (old_err new_err : SinkState) : Type 0 where
+  pub command : Command
+  pub is_command : c ≡ Some command
+  pub accepted : IsAccepted command old new
+  pub only : command.action ≡ action.Compile
   pub rest : new ≡ record old { host = new.host }
   pub err : new_err ≡ old_err
+
+-- The program was carried out besides: the output, the status and the line on err are those of that program, on the
+-- input, for at most so many steps.
+pub record IsRun (c : Option Command) (old new : Outside) (old_err new_err : SinkState) (s : Status) : Type 0 where
+  pub command : Command
+  pub is_command : c ≡ Some command
+  pub accepted : IsAccepted command old new
+  pub most : ℕ
+  pub run : steps_for command.action ≡ Some most
+  pub input : List ℕ
+  pub is_input : IsInput old.input input
+  pub shown : Shown (behaviour accepted.program input most) (streams old) (streams new)
+  pub status : s ≡ status_of (Ok (came_of (behaviour accepted.program input most)))
+  pub err : new_err ≡ sink_with old_err (line (Ok (came_of (behaviour accepted.program input most))))
+
+-- the statuses of a run
+abbrev pub IsOfRun : Status → Type 0
+IsOfRun status.Faulted = Unit {0}
+IsOfRun status.Spent = Unit {0}
+IsOfRun status.Stuck = Unit {0}
+IsOfRun _ = ⊥
 
 -- the words name no command: err has the usage line, and all else is as at entry
 pub record IsUsage (c : Option Command) (old new : Outside) (old_err new_err : SinkState) : Type 0 where
@@ -255,9 +311,12 @@ IsAnswer status.WriteFault = ⊥
 IsAnswer status.Memory = ⊥
 IsAnswer _ = Unit {0}
 
--- the answers that this program never gives yet
-abbrev pub IsLater : Status → Type 0
-IsLater status.Faulted = Unit {0}
-IsLater status.Spent = Unit {0}
-IsLater status.Stuck = Unit {0}
-IsLater _ = ⊥
+-- the command carries a text out
+abbrev pub CarriesOut : Option Command → Type 0
+CarriesOut None = ⊥
+CarriesOut (Some c) = (m : ℕ) × (steps_for c.action ≡ Some m)
+
+-- the command carries out a C text
+abbrev pub Executes : Option Command → Type 0
+Executes None = ⊥
+Executes (Some c) = (m : ℕ) × (c.action ≡ action.Exec m)

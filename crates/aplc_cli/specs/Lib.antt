@@ -3,4 +3,7 @@ pub mod Eager
 pub mod Runs
 pub mod Emitted
 pub mod Compiled
+pub mod Words
+pub mod Came
+pub mod Carrying
 pub mod Call

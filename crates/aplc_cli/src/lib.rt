@@ -2,12 +2,16 @@
 //! It must not know how a stage does its work.
 #![tactic(auto)]
 
+mod carrying;
 mod compiling;
+#[cfg(test)]
+mod exec_tests;
 mod generating;
 mod refusal;
 mod report;
 mod source;
 mod status;
+mod steps;
 #[cfg(test)]
 mod tests;
 mod top;

@@ -1,27 +1,61 @@
 //! The line on err for what a call came to, and the status.
 //! It must not know how the work was done.
 
-ghost use Rattle.std.specs.Prelude.{◌≡◌, Err, OnOk, OnErr};
+ghost use Rattle.std.specs.Prelude.{◌≡◌, ◌++◌, codes, Ok, Err, OnOk, OnErr};
 ghost use Rattle.aplc_io.specs.Outside.{sink_with};
 ghost use Rattle.aplc_io.specs.Parts.{PartWritten};
-ghost use Rattle.aplc_cli.specs.Call.{Reports, line, status_of, refusal_line, refusal_word};
+ghost use Rattle.aplc_cli.specs.Came.{line, status_of, refusal_line, refusal_word, fault_word, cause_word, fault_line, stuck_line, told, result_map};
+ghost use Rattle.aplc_cli.specs.Call.{Reports};
+ghost use Rattle.aplc_crun.specs.Running.{place_name, place_line};
 
-use crate::status::Stop;
+use crate::status::{Ending, RunEnd, Stop};
 use crate::{Refusal, Status};
+use aplc_crun::{Machine, StuckCause};
 use aplc_io::{Failed, Sink, write_all, write_pieces};
+use aplc_scalar::FaultKind;
 use itoa::Buffer;
 
 const USAGE: &[u8] =
     b"usage: aplc [-o NAME] FILE; aplc --run [--steps M] [--stats] [-o NAME] FILE; aplc --check FILE; aplc --exec [--steps M] [--stats] FILE; aplc --make N\n";
 
 // The word of a refusal's number.
-fn word(number: u8) -> &'static [u8]
+fn refusal_word(number: u8) -> &'static [u8]
     ensures { result.now ≡ refusal_word number }
 {
-    if number == 23 {
-        return b"TOO LONG";
+    match number {
+        23 | 35 => b"TOO LONG",
+        30 => b"PREAMBLE",
+        31 => b"BYTE",
+        32 => b"FORM",
+        33 => b"NAME",
+        34 => b"NESTING",
+        _ => b"LATER",
     }
-    b"LATER"
+}
+
+fn fault_word(kind: FaultKind) -> &'static [u8]
+    ensures { result.now ≡ fault_word kind }
+{
+    match kind {
+        FaultKind::Domain => b"DOMAIN",
+        FaultKind::Index => b"INDEX",
+        FaultKind::Length => b"LENGTH",
+        FaultKind::Limit => b"LIMIT",
+        FaultKind::Rank => b"RANK",
+        FaultKind::Value => b"VALUE",
+        FaultKind::Input => b"INPUT",
+    }
+}
+
+fn cause_word(cause: StuckCause) -> &'static [u8]
+    ensures { result.now ≡ cause_word cause }
+{
+    match cause {
+        StuckCause::Outside => b"OUTSIDE",
+        StuckCause::Freed => b"FREED",
+        StuckCause::Unset => b"UNSET",
+        StuckCause::Range => b"RANGE",
+    }
 }
 
 fn write_refusal<E: Sink>(err: &mut E, refusal: Refusal) -> Result<(), Failed>
@@ -38,7 +72,7 @@ fn write_refusal<E: Sink>(err: &mut E, refusal: Refusal) -> Result<(), Failed>
             b"REFUSED ",
             number,
             b" ",
-            word(refusal.number),
+            refusal_word(refusal.number),
             b" AT ",
             place,
             b"\n",
@@ -46,25 +80,94 @@ fn write_refusal<E: Sink>(err: &mut E, refusal: Refusal) -> Result<(), Failed>
     )
 }
 
-fn write_line<E: Sink>(err: &mut E, done: Result<(), Stop>) -> Result<(), Failed>
-    ensures whole { OnOk result (E.state err.new ≡ sink_with (E.state err.old) (line done)) }
-    ensures part { OnErr result (PartWritten (line done) (E.state err.old) (E.state err.new)) }
+// The line of a fault from its parts: the word of the kind, the function and the line.
+fn write_parts<'a, E: Sink>(
+    err: &mut E,
+    word: &'a [u8],
+    name: &'a [u8],
+    line: &'a [u8],
+) -> Result<(), Failed>
+    ensures whole { OnOk result (E.state err.new ≡ sink_with (E.state err.old) (word.now ++ (codes " ERROR " ++ (name.now ++ (codes "[" ++ (line.now ++ codes "]\n")))))) }
+    ensures part { OnErr result (PartWritten (word.now ++ (codes " ERROR " ++ (name.now ++ (codes "[" ++ (line.now ++ codes "]\n"))))) (E.state err.old) (E.state err.new)) }
 {
-    match done {
-        Ok(()) => Ok(()),
-        Err(Stop::Usage) => write_all(err, USAGE),
-        Err(Stop::Refused(refusal)) => write_refusal(err, refusal),
-        Err(Stop::ReadFault) => write_all(err, b"READ FAULT\n"),
-        Err(Stop::WriteFault) => write_all(err, b"WRITE FAULT\n"),
-        Err(Stop::Memory) => write_all(err, b"NO MEMORY\n"),
+    write_pieces(err, &[word, b" ERROR ", name, b"[", line, b"]\n"])
+}
+
+// The kind of a fault, and the place where the machine stands.
+fn write_fault<E: Sink>(err: &mut E, kind: FaultKind, machine: &Machine) -> Result<(), Failed>
+    ensures whole { OnOk result (E.state err.new ≡ sink_with (E.state err.old) (fault_line kind (place_name machine.now) (place_line machine.now))) }
+    ensures part { OnErr result (PartWritten (fault_line kind (place_name machine.now) (place_line machine.now)) (E.state err.old) (E.state err.new)) }
+{
+    let mut buffer = Buffer::new();
+    let line = buffer.format(machine.place_line()).as_bytes();
+    write_parts(err, fault_word(kind), machine.place_name(), line)
+}
+
+fn write_stuck<E: Sink>(err: &mut E, cause: StuckCause, statement: u64) -> Result<(), Failed>
+    ensures whole { OnOk result (E.state err.new ≡ sink_with (E.state err.old) (stuck_line cause statement)) }
+    ensures part { OnErr result (PartWritten (stuck_line cause statement) (E.state err.old) (E.state err.new)) }
+{
+    let mut buffer = Buffer::new();
+    let statement = buffer.format(statement).as_bytes();
+    write_pieces(
+        err,
+        &[b"STUCK ", cause_word(cause), b" AT ", statement, b"\n"],
+    )
+}
+
+fn write_end<E: Sink>(err: &mut E, end: RunEnd, machine: &Machine) -> Result<(), Failed>
+    ensures whole { OnOk result (E.state err.new ≡ sink_with (E.state err.old) (line (Ok (told (Ending.Ran end machine.now))))) }
+    ensures part { OnErr result (PartWritten (line (Ok (told (Ending.Ran end machine.now)))) (E.state err.old) (E.state err.new)) }
+{
+    match end {
+        RunEnd::Ended => Ok(()),
+        RunEnd::Faulted(kind) => write_fault(err, kind, machine),
+        RunEnd::Spent => write_all(err, b"STEP LIMIT\n"),
+        RunEnd::Stuck(cause, statement) => write_stuck(err, cause, statement),
     }
 }
 
-fn plain_status(done: Result<(), Stop>) -> Status
-    ensures { result ≡ status_of done }
+fn write_ending<E: Sink>(err: &mut E, ending: &Ending) -> Result<(), Failed>
+    ensures whole { OnOk result (E.state err.new ≡ sink_with (E.state err.old) (line (Ok (told ending.now)))) }
+    ensures part { OnErr result (PartWritten (line (Ok (told ending.now))) (E.state err.old) (E.state err.new)) }
+{
+    match ending {
+        Ending::Compiled => Ok(()),
+        Ending::Ran(end, machine) => write_end(err, *end, machine),
+    }
+}
+
+fn write_stop<E: Sink>(err: &mut E, stop: Stop) -> Result<(), Failed>
+    ensures whole { OnOk result (E.state err.new ≡ sink_with (E.state err.old) (line (Err stop))) }
+    ensures part { OnErr result (PartWritten (line (Err stop)) (E.state err.old) (E.state err.new)) }
+{
+    match stop {
+        Stop::Usage => write_all(err, USAGE),
+        Stop::Refused(refusal) => write_refusal(err, refusal),
+        Stop::ReadFault => write_all(err, b"READ FAULT\n"),
+        Stop::WriteFault => write_all(err, b"WRITE FAULT\n"),
+        Stop::Memory => write_all(err, b"NO MEMORY\n"),
+    }
+}
+
+fn write_line<E: Sink>(err: &mut E, done: &Result<Ending, Stop>) -> Result<(), Failed>
+    ensures whole { OnOk result (E.state err.new ≡ sink_with (E.state err.old) (line (result_map told done.now))) }
+    ensures part { OnErr result (PartWritten (line (result_map told done.now)) (E.state err.old) (E.state err.new)) }
 {
     match done {
-        Ok(()) => Status::Done,
+        Ok(ending) => write_ending(err, ending),
+        Err(stop) => write_stop(err, *stop),
+    }
+}
+
+fn plain_status(done: &Result<Ending, Stop>) -> Status
+    ensures { result ≡ status_of (result_map told done.now) }
+{
+    match done {
+        Ok(Ending::Compiled) | Ok(Ending::Ran(RunEnd::Ended, _)) => Status::Done,
+        Ok(Ending::Ran(RunEnd::Faulted(_), _)) => Status::Faulted,
+        Ok(Ending::Ran(RunEnd::Spent, _)) => Status::Spent,
+        Ok(Ending::Ran(RunEnd::Stuck(_, _), _)) => Status::Stuck,
         Err(Stop::Usage) => Status::Usage,
         Err(Stop::Refused(_)) => Status::Refused,
         Err(Stop::ReadFault) => Status::ReadFault,
@@ -75,8 +178,8 @@ fn plain_status(done: Result<(), Stop>) -> Status
 
 /// Writes the line, and answers the status. A fault of the line is `WriteFault`; the line of `WriteFault` is
 /// tried once, and its own fault changes nothing more.
-pub fn report<E: Sink>(err: &mut E, done: Result<(), Stop>) -> Status
-    ensures { Reports done (E.state err.old) (E.state err.new) result }
+pub fn report<E: Sink>(err: &mut E, done: &Result<Ending, Stop>) -> Status
+    ensures { Reports (result_map told done.now) (E.state err.old) (E.state err.new) result }
 {
     if let Err(Stop::WriteFault) = done {
         let _ = write_all(err, b"WRITE FAULT\n");

@@ -67,7 +67,7 @@ fn is_digit(b: u8) -> bool
 
 /// The value of digits. `None` where another byte is among them, where there is none, and above 9223372036854775807.
 #[tactic(auto, using(crate::proofs::ReadingNumbers::steps))]
-fn magnitude(digits: &[u8]) -> Option<u64>
+pub fn magnitude(digits: &[u8]) -> Option<u64>
     ensures value { result ≡ magnitude digits.now }
     ensures small { IfSome result (λ n. n < 2 ^ 63) }
 {

@@ -2,9 +2,11 @@
 //! It must not know how the work is done.
 
 ghost use Rattle.std.specs.Prelude.{◌≡◌};
-ghost use Rattle.aplc_cli.specs.Call.{code_of};
+ghost use Rattle.aplc_cli.specs.Came.{code_of};
 
 use crate::Refusal;
+use aplc_crun::{Machine, StuckCause};
+use aplc_scalar::FaultKind;
 
 /// How a call of the program ended.
 #[derive(Clone, Copy, Debug, PartialEq, Eq)]
@@ -37,6 +39,28 @@ impl Status {
             Status::Stuck => 8,
         }
     }
+}
+
+/// How the run of a text ended.
+#[derive(Clone, Copy, Debug, PartialEq, Eq)]
+pub enum RunEnd {
+    /// It came to its end.
+    Ended,
+    /// It met a fault.
+    Faulted(FaultKind),
+    /// Its steps were spent.
+    Spent,
+    /// It got stuck, at the statement of this number.
+    Stuck(StuckCause, u64),
+}
+
+/// What the work of a call came to, where nothing outside failed.
+#[derive(Drop)]
+pub enum Ending {
+    /// The text was handed over.
+    Compiled,
+    /// The text was carried out: how that ended, and the machine as it stands.
+    Ran(RunEnd, Machine),
 }
 
 /// Why the work of a call stops short.

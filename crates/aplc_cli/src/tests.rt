@@ -2,18 +2,20 @@
 //! The expected bytes come from the rules of the language and of the C profile.
 
 use super::*;
-use aplc_cprof::{Builder, CExpr, CStmt, preamble_bytes};
-use aplc_io::{MemHost, MemSink, MemSource};
+use aplc_cprof::{Builder, CExpr, CProgram, CStmt, List, preamble_bytes};
+use aplc_crun::Machine;
+use aplc_io::{Host, MemHost, MemSink, MemSource};
 use std::alloc::Global;
 use std::process::Abort;
 use std::test::Fail;
 
-// One call: its words, the file `f`, and the calls of the host and of err that fail.
+// One call: its words, the file `f`, and the calls of the host, of out and of err that fail.
 #[derive(Clone, Copy)]
 struct Case<'a> {
     words: &'a [&'a str],
     file: &'a [u8],
     host_fails: &'a [u64],
+    out_fails: &'a [u64],
     err_fails: &'a [u64],
 }
 
@@ -21,14 +23,16 @@ const PLAIN: Case<'static> = Case {
     words: &["f"],
     file: b"",
     host_fails: &[],
+    out_fails: &[],
     err_fails: &[],
 };
 
-// The status, the text on the host behind the preamble, and the line on err; out stays empty.
+// The status, the text on the host behind the preamble, out, and the line on err.
 #[derive(Clone, Copy)]
 struct Answer<'a> {
     status: Status,
     text: &'a [u8],
+    out: &'a [u8],
     err: &'a [u8],
 }
 
@@ -40,12 +44,12 @@ fn check(rt: &impl Abort, alloc: Global, case: &Case<'_>, answer: &Answer<'_>) -
     let mut host = MemHost::new(alloc, 10_000, case.host_fails.to_vec(alloc)?)?;
     host.add("f", case.file.to_vec(alloc)?)?;
     let mut input = MemSource::new(Vec::new(alloc), Vec::new(alloc));
-    let mut out = MemSink::new(alloc, 100, Vec::new(alloc))?;
+    let mut out = MemSink::new(alloc, 100, case.out_fails.to_vec(alloc)?)?;
     let mut err = MemSink::new(alloc, 1000, case.err_fails.to_vec(alloc)?)?;
     let status = aplc(alloc, words, &mut host, &mut input, &mut out, &mut err);
     assert_eq!(rt; status, answer.status);
     assert_eq!(rt; own_text(host.text()), answer.text);
-    assert_eq!(rt; out.bytes(), b"".as_slice());
+    assert_eq!(rt; out.bytes(), answer.out);
     assert_eq!(rt; err.bytes(), answer.err);
     Ok(())
 }
@@ -71,6 +75,7 @@ fn compiles(rt: HostRuntime) -> Result<(), Fail> {
     let done = Answer {
         status: Status::Done,
         text,
+        out: b"",
         err: b"",
     };
     check(&rt, rt.alloc(), &case, &done)?;
@@ -88,6 +93,7 @@ fn refuses(rt: HostRuntime) -> Result<(), Fail> {
     let later = Answer {
         status: Status::Refused,
         text: b"",
+        out: b"",
         err: b"REFUSED 90 LATER AT 8\n",
     };
     let case = Case {
@@ -117,6 +123,7 @@ fn stops(rt: HostRuntime) -> Result<(), Fail> {
     let usage = Answer {
         status: Status::Usage,
         text: b"",
+        out: b"",
         err: b"usage: aplc [-o NAME] FILE; aplc --run [--steps M] [--stats] [-o NAME] FILE; aplc --check FILE; aplc --exec [--steps M] [--stats] FILE; aplc --make N\n",
     };
     let case = Case {
@@ -142,6 +149,7 @@ fn stops(rt: HostRuntime) -> Result<(), Fail> {
     let read_fault = Answer {
         status: Status::ReadFault,
         text: b"",
+        out: b"",
         err: b"READ FAULT\n",
     };
     let case = Case {
@@ -162,6 +170,7 @@ fn stops(rt: HostRuntime) -> Result<(), Fail> {
     let write_fault = Answer {
         status: Status::WriteFault,
         text: b"",
+        out: b"",
         err: b"WRITE FAULT\n",
     };
     check(&rt, rt.alloc(), &case, &write_fault)?;
@@ -171,6 +180,231 @@ fn stops(rt: HostRuntime) -> Result<(), Fail> {
         ..PLAIN
     };
     check(&rt, rt.alloc(), &case, &write_fault)
+}
+
+// The text of `2+3×4` behind the preamble.
+const ROW: &[u8] =
+    b"static void f0(void);\nstatic void f0(void) {\nint64_t v0;\nat(\"MAIN\", 1);\nv0 = 4LL;\nv0 = mul(3LL, v0);\nv0 = add(2LL, v0);\nput_num(v0, 0LL);\nput_char(10LL);\n}\nint main(void) {\nf0();\nreturn 0;\n}\n";
+
+const RAN: Answer<'static> = Answer {
+    status: Status::Done,
+    text: ROW,
+    out: b"14\n",
+    err: b"",
+};
+
+#[test]
+fn runs(rt: HostRuntime) -> Result<(), Fail> {
+    let case = Case {
+        words: &["--run", "f"],
+        file: "∇MAIN\n2+3×4\n∇\n".as_bytes(),
+        ..PLAIN
+    };
+    check(&rt, rt.alloc(), &case, &RAN)?;
+    let case = Case {
+        words: &["--run", "f"],
+        file: "∇MAIN\n10-5-2\n∇\n".as_bytes(),
+        ..PLAIN
+    };
+    let text =
+        b"static void f0(void);\nstatic void f0(void) {\nint64_t v0;\nat(\"MAIN\", 1);\nv0 = 2LL;\nv0 = sub(5LL, v0);\nv0 = sub(10LL, v0);\nput_num(v0, 0LL);\nput_char(10LL);\n}\nint main(void) {\nf0();\nreturn 0;\n}\n";
+    let seven = Answer {
+        text,
+        out: b"7\n",
+        ..RAN
+    };
+    check(&rt, rt.alloc(), &case, &seven)?;
+    let case = Case {
+        words: &["--run", "f"],
+        file: "∇MAIN\n9223372036854775807+1\n∇\n".as_bytes(),
+        ..PLAIN
+    };
+    let text =
+        b"static void f0(void);\nstatic void f0(void) {\nint64_t v0;\nat(\"MAIN\", 1);\nv0 = 1LL;\nv0 = add(9223372036854775807LL, v0);\nput_num(v0, 0LL);\nput_char(10LL);\n}\nint main(void) {\nf0();\nreturn 0;\n}\n";
+    let limit = Answer {
+        status: Status::Faulted,
+        text,
+        out: b"",
+        err: b"LIMIT ERROR MAIN[1]\n",
+    };
+    check(&rt, rt.alloc(), &case, &limit)
+}
+
+// Its location, three assignments, the number, the line end, and the end of its function: seven steps.
+#[test]
+fn counts_steps(rt: HostRuntime) -> Result<(), Fail> {
+    let spent = Answer {
+        status: Status::Spent,
+        out: b"",
+        err: b"STEP LIMIT\n",
+        ..RAN
+    };
+    let case = Case {
+        words: &["--run", "--steps", "1", "f"],
+        file: "∇MAIN\n2+3×4\n∇\n".as_bytes(),
+        ..PLAIN
+    };
+    check(&rt, rt.alloc(), &case, &spent)?;
+    let case = Case {
+        words: &["--run", "--steps", "5", "f"],
+        file: "∇MAIN\n2+3×4\n∇\n".as_bytes(),
+        ..PLAIN
+    };
+    let number = Answer {
+        out: b"14",
+        ..spent
+    };
+    check(&rt, rt.alloc(), &case, &number)?;
+    let case = Case {
+        words: &["--run", "--steps", "6", "f"],
+        file: "∇MAIN\n2+3×4\n∇\n".as_bytes(),
+        ..PLAIN
+    };
+    let line = Answer {
+        out: b"14\n",
+        ..spent
+    };
+    check(&rt, rt.alloc(), &case, &line)?;
+    let case = Case {
+        words: &["--run", "--steps", "0000000000000007", "f"],
+        file: "∇MAIN\n2+3×4\n∇\n".as_bytes(),
+        ..PLAIN
+    };
+    check(&rt, rt.alloc(), &case, &RAN)?;
+    let case = Case {
+        words: &["--run", "--steps", "1000000000000000", "f"],
+        file: "∇MAIN\n2+3×4\n∇\n".as_bytes(),
+        ..PLAIN
+    };
+    check(&rt, rt.alloc(), &case, &RAN)
+}
+
+#[test]
+fn stops_in_a_run(rt: HostRuntime) -> Result<(), Fail> {
+    let case = Case {
+        words: &["--run", "f"],
+        file: "∇MAIN\n2+3×4\n∇\n".as_bytes(),
+        out_fails: &[1],
+        ..PLAIN
+    };
+    let no_output = Answer {
+        status: Status::WriteFault,
+        out: b"",
+        err: b"WRITE FAULT\n",
+        ..RAN
+    };
+    check(&rt, rt.alloc(), &case, &no_output)?;
+    let case = Case {
+        words: &["--run", "f"],
+        file: "∇MAIN\n2+3×4\n∇\n".as_bytes(),
+        host_fails: &[2],
+        ..PLAIN
+    };
+    let no_text = Answer {
+        text: b"",
+        ..no_output
+    };
+    check(&rt, rt.alloc(), &case, &no_text)?;
+    let case = Case {
+        words: &["--run", "f"],
+        file: "∇MAIN\n1 2\n∇\n".as_bytes(),
+        ..PLAIN
+    };
+    let refused = Answer {
+        status: Status::Refused,
+        text: b"",
+        out: b"",
+        err: b"REFUSED 90 LATER AT 8\n",
+    };
+    check(&rt, rt.alloc(), &case, &refused)
+}
+
+#[test]
+fn asks_for_words(rt: HostRuntime) -> Result<(), Fail> {
+    let usage = Answer {
+        status: Status::Usage,
+        text: b"",
+        out: b"",
+        err: b"usage: aplc [-o NAME] FILE; aplc --run [--steps M] [--stats] [-o NAME] FILE; aplc --check FILE; aplc --exec [--steps M] [--stats] FILE; aplc --make N\n",
+    };
+    let cases: [&[&str]; 12] = [
+        &["--run"],
+        &["--run", ""],
+        &["--run", "-f"],
+        &["--run", "--run", "f"],
+        &["--run", "--check", "f"],
+        &["--steps", "5", "f"],
+        &["--run", "--steps", "f"],
+        &["--run", "--steps", "0", "f"],
+        &["--run", "--steps", "1000000000000001", "f"],
+        &["--run", "--steps", "00000000000000005", "f"],
+        &["--exec"],
+        &["--exec", "--run", "f"],
+    ];
+    for words in cases {
+        let case = Case {
+            words,
+            file: "∇MAIN\n1\n∇\n".as_bytes(),
+            ..PLAIN
+        };
+        check(&rt, rt.alloc(), &case, &usage)?;
+    }
+    Ok(())
+}
+
+// Where the text went: nowhere but to its run.
+#[test]
+fn tells_the_target(rt: HostRuntime) -> Result<(), Fail> {
+    let alloc = rt.alloc();
+    let mut words = Vec::new(alloc);
+    words.push(String::from_str(alloc, "--run")?)?;
+    words.push(String::from_str(alloc, "f")?)?;
+    let mut host = MemHost::new(alloc, 10_000, Vec::new(alloc))?;
+    host.add("f", "∇MAIN\n∇\n".as_bytes().to_vec(alloc)?)?;
+    let mut input = MemSource::new(b"abc".to_vec(alloc)?, Vec::new(alloc));
+    let mut out = MemSink::new(alloc, 100, Vec::new(alloc))?;
+    let mut err = MemSink::new(alloc, 100, Vec::new(alloc))?;
+    let status = aplc(alloc, words, &mut host, &mut input, &mut out, &mut err);
+    assert_eq!(rt; status, Status::Done);
+    assert!(rt; host.target() == Some((None, true)));
+    assert_eq!(rt; out.bytes(), b"".as_slice());
+    Ok(())
+}
+
+// Each public call that takes memory, with ample memory; `print` stands under `aplc`.
+#[test]
+fn takes_memory(rt: HostRuntime) -> Result<(), Fail> {
+    let alloc = rt.alloc();
+    let mut b = Builder::new(alloc);
+    let v = b.fresh_int()?;
+    let p = b.fresh_buf()?;
+    b.emit(CStmt::Cells(p, CExpr::Lit(3)))?;
+    b.open()?;
+    b.emit(CStmt::Free(p))?;
+    let block = b.close();
+    b.emit(CStmt::If(CExpr::Lit(1), block, None))?;
+    b.emit(CStmt::Set(v, CExpr::Lit(5)))?;
+    b.emit(CStmt::PutNum(CExpr::Var(v), CExpr::Lit(0)))?;
+    let mut functions = Vec::new(alloc);
+    functions.push(b.finish())?;
+    let program = CProgram {
+        tables: List::from_vec(Vec::new(alloc)),
+        ints: 0,
+        bufs: 0,
+        functions: List::from_vec(functions),
+    };
+    let mut machine = Machine::start(alloc, program)?;
+    let mut host = MemHost::new(alloc, 0, Vec::new(alloc))?;
+    host.add("f", b"abc".to_vec(alloc)?)?;
+    let file = host.fetch(alloc, "f", 3)?;
+    let mut input = MemSource::new(file, Vec::new(alloc));
+    let mut out = MemSink::new(alloc, 100, Vec::new(alloc))?;
+    assert!(rt; machine.run(&mut input, &mut out, 100) == Ok(()));
+    assert_eq!(rt; out.bytes(), b"5".as_slice());
+    assert_eq!(rt; machine.steps(), 6);
+    assert_eq!(rt; machine.peak(), 3);
+    assert_eq!(rt; machine.cells(), 0);
+    Ok(())
 }
 
 #[test]

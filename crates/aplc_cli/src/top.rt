@@ -1,70 +1,97 @@
-//! The top call: fetch, compile, hand over, report.
+//! The top call: its words, its work, its report.
 //! It must not know what a source, a program or a text look like.
 
-ghost use Rattle.std.specs.Prelude.{◌≡◌, None, Some, Err, map, false};
+ghost use Rattle.std.specs.Prelude.{◌≡◌, ◌⊎◌, Some, map};
 ghost use Rattle.std.specs.String.{string_bytes};
-ghost use Rattle.aplc_io.specs.Outside.{target_of};
-ghost use Rattle.aplc_cli.specs.Call.{Outside, command, Works, Ends, Fetched, Sends, result_map, IsUsage, IsRefused, IsDone, HasReadCause, HasWriteCause, KeepsCounts, IsAnswer, IsLater};
+ghost use Rattle.aplc_cli.specs.Words.{command};
+ghost use Rattle.aplc_cli.specs.Came.{told, result_map};
+ghost use Rattle.aplc_cli.specs.Call.{Outside, Works, Ends, IsUsage, IsRefused, IsCompiledOnly, IsRun, IsOfRun, HasReadCause, HasWriteCause, KeepsCounts, IsAnswer, CarriesOut, Executes};
+ghost use Rattle.aplc_io.specs.Outside.{SourceState, SinkState};
 
-use crate::Refusal;
-use crate::compiling::{SOURCE_LIMIT, compile};
 use crate::report::report;
-use crate::status::{Status, Stop};
-use crate::words::read_words;
-use aplc_io::{Failed, FetchFault, Host, Sink, Source, put_all};
+use crate::status::{Ending, Status, Stop};
+use crate::steps::{make, read_text, run_program, run_text, send_text};
+use crate::words::{Action, read_words};
+use aplc_io::{Host, Sink, Source};
 use std::alloc::Global;
 
-fn fetch<H: Host>(alloc: Global, host: &mut H, name: &str) -> Result<Vec<u8>, Stop>
-    ensures { Fetched name.now (H.state host.old) (H.state host.new) (result_map (λ v. v.items) result) }
+// FILE
+fn compile_file<H: Host>(alloc: Global, name: &str, host: &mut H) -> Result<Ending, Stop>
+    ensures { (i : SourceState) (o : SinkState) → Works (Some record { name = name.now; action = Action.Compile })
+        (record { host = H.state host.old; input = i; out = o })
+        (record { host = H.state host.new; input = i; out = o }) (result_map told result) }
 {
-    match host.fetch(alloc, name, SOURCE_LIMIT) {
-        Ok(file) => Ok(file),
-        Err(FetchFault::Failed) => Err(Stop::ReadFault),
-        Err(FetchFault::TooLong) => Err(Stop::Refused(Refusal {
-            number: 23,
-            place: SOURCE_LIMIT,
-        })),
-        Err(FetchFault::Memory) => Err(Stop::Memory),
+    let made = match make(alloc, host, name) {
+        Ok(made) => made,
+        Err(stop) => return Err(stop),
+    };
+    match send_text(host, made.text.as_slice(), false) {
+        Ok(()) => Ok(Ending::Compiled),
+        Err(stop) => Err(stop),
     }
 }
 
-fn send_text<H: Host>(host: &mut H, text: &[u8]) -> Result<(), Stop>
-    ensures { Sends (record { target = target_of None false; bytes = text.now }) (H.state host.old) (H.state host.new) result }
+// --run FILE
+fn run_file<H: Host, S: Source, O: Sink>(
+    alloc: Global,
+    name: &str,
+    host: &mut H,
+    input: &mut S,
+    out: &mut O,
+    budget: u64,
+) -> Result<Ending, Stop>
+    ensures { Works (Some record { name = name.now; action = Action.Run budget })
+        (record { host = H.state host.old; input = S.state input.old; out = O.state out.old })
+        (record { host = H.state host.new; input = S.state input.new; out = O.state out.new }) (result_map told result) }
 {
-    if host.text_to(None, false).is_err() {
-        return Err(Stop::WriteFault);
-    }
-    match put_all(host, text) {
-        Ok(()) => Ok(()),
-        Err(Failed) => Err(Stop::WriteFault),
-    }
+    let made = match make(alloc, host, name) {
+        Ok(made) => made,
+        Err(stop) => return Err(stop),
+    };
+    run_text(alloc, made, host, input, out, budget)
 }
 
-// All but the line on err. The input and the output are for the commands that run a text.
+// --exec FILE
+fn execute_file<H: Host, S: Source, O: Sink>(
+    alloc: Global,
+    name: &str,
+    host: &mut H,
+    input: &mut S,
+    out: &mut O,
+    budget: u64,
+) -> Result<Ending, Stop>
+    ensures { Works (Some record { name = name.now; action = Action.Exec budget })
+        (record { host = H.state host.old; input = S.state input.old; out = O.state out.old })
+        (record { host = H.state host.new; input = S.state input.new; out = O.state out.new }) (result_map told result) }
+{
+    let program = match read_text(alloc, host, name) {
+        Ok(program) => program,
+        Err(stop) => return Err(stop),
+    };
+    run_program(alloc, program, input, out, budget)
+}
+
+// All but the line on err.
 fn work<H: Host, S: Source, O: Sink>(
     alloc: Global,
     words: &[String],
     host: &mut H,
     input: &mut S,
     out: &mut O,
-) -> Result<(), Stop>
+) -> Result<Ending, Stop>
     ensures { Works (command (map string_bytes words.now))
         (record { host = H.state host.old; input = S.state input.old; out = O.state out.old })
-        (record { host = H.state host.new; input = S.state input.new; out = O.state out.new }) result }
+        (record { host = H.state host.new; input = S.state input.new; out = O.state out.new }) (result_map told result) }
 {
     let asked = match read_words(words) {
         Some(asked) => asked,
         None => return Err(Stop::Usage),
     };
-    let file = match fetch(alloc, host, asked.name) {
-        Ok(file) => file,
-        Err(stop) => return Err(stop),
-    };
-    let text = match compile(alloc, file.as_slice()) {
-        Ok(text) => text,
-        Err(stop) => return Err(stop),
-    };
-    send_text(host, text.as_slice())
+    match asked.action {
+        Action::Compile => compile_file(alloc, asked.name, host),
+        Action::Run(budget) => run_file(alloc, asked.name, host, input, out, budget),
+        Action::Exec(budget) => execute_file(alloc, asked.name, host, input, out, budget),
+    }
 }
 
 // The work, and then the report.
@@ -82,14 +109,21 @@ fn carry_out<H: Host, S: Source, O: Sink, E: Sink>(
         (E.state err.old) (E.state err.new) result }
 {
     let done = work(alloc, words, host, input, out);
-    report(err, done)
+    report(err, &done)
 }
 
 /// Carries out what the words ask for, and answers how that ended.
 ///
-/// `words` are those of the command line behind the program's name. With the one word FILE, which is not empty
-/// and does not begin with `-`, the file is fetched and compiled, and its C text is handed to the host. Nothing
-/// is read from `input` and nothing is written to `out`. A line on `err` tells every answer but `Done`.
+/// `words` are those of the command line behind the program's name. FILE is not empty and does not begin with `-`.
+/// - `FILE`: the file is fetched and compiled, and its C text is handed to the host. Nothing is read from `input`
+///   and nothing is written to `out`.
+/// - `--run FILE`, `--run --steps M FILE`: the same, and then the text is carried out over `input` and `out`, for
+///   at most M steps; M is 1 to 16 digits with a value from 1 to 1,000,000,000,000,000, and 1,000,000,000 without
+///   `--steps`.
+/// - `--exec FILE`, `--exec --steps M FILE`: the file is a C text and is carried out in the same way. Nothing is
+///   handed to the host. This alone may answer `Stuck`.
+///
+/// A line on `err` tells every answer but `Done`.
 pub fn aplc<H: Host, S: Source, O: Sink, E: Sink>(
     alloc: Global,
     words: Vec<String>,
@@ -104,10 +138,18 @@ pub fn aplc<H: Host, S: Source, O: Sink, E: Sink>(
         (E.state err.old) (E.state err.new) result }
 
     // The rest follows from it, one status after the other.
-    ensures done { result ≡ Status.Done → IsDone (command (map string_bytes words.items))
+    ensures done { result ≡ Status.Done → IsCompiledOnly (command (map string_bytes words.items))
         (record { host = H.state host.old; input = S.state input.old; out = O.state out.old })
         (record { host = H.state host.new; input = S.state input.new; out = O.state out.new })
-        (E.state err.old) (E.state err.new) }
+        (E.state err.old) (E.state err.new) ⊎ IsRun (command (map string_bytes words.items))
+        (record { host = H.state host.old; input = S.state input.old; out = O.state out.old })
+        (record { host = H.state host.new; input = S.state input.new; out = O.state out.new })
+        (E.state err.old) (E.state err.new) result }
+    ensures ran { IsOfRun result → IsRun (command (map string_bytes words.items))
+        (record { host = H.state host.old; input = S.state input.old; out = O.state out.old })
+        (record { host = H.state host.new; input = S.state input.new; out = O.state out.new })
+        (E.state err.old) (E.state err.new) result }
+    ensures stuck { result ≡ Status.Stuck → Executes (command (map string_bytes words.items)) }
     ensures refused { result ≡ Status.Refused → IsRefused (command (map string_bytes words.items))
         (record { host = H.state host.old; input = S.state input.old; out = O.state out.old })
         (record { host = H.state host.new; input = S.state input.new; out = O.state out.new })
@@ -127,8 +169,10 @@ pub fn aplc<H: Host, S: Source, O: Sink, E: Sink>(
         (record { host = H.state host.old; input = S.state input.old; out = O.state out.old })
         (record { host = H.state host.new; input = S.state input.new; out = O.state out.new })
         (E.state err.old) (E.state err.new) }
-    ensures untouched { (S.state input.new ≡ S.state input.old) × (O.state out.new ≡ O.state out.old) }
-    ensures never_later { IsLater result → ⊥ }
+    ensures untouched { (CarriesOut (command (map string_bytes words.items)) → ⊥) →
+        (S.state input.new ≡ S.state input.old) × (O.state out.new ≡ O.state out.old) }
+    ensures no_text { Executes (command (map string_bytes words.items)) →
+        (H.state host.new).text ≡ (H.state host.old).text × (H.state host.new).target ≡ (H.state host.old).target }
 {
     carry_out(alloc, words.as_slice(), host, input, out, err)
 }

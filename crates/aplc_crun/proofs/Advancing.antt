@@ -104,8 +104,9 @@ advanced_none m s = record {
       };
 }
 
-comes_on : (p : CProgram) (m n o : Machine) (v : Verdict) (a b given more : List ℕ) (st : State) → m.live.steps ≤ n.live.steps → n.live.steps ≤ o.live.steps → Comes p verdict.Held n (given ++ a) more (run (code_of p) (n.live.steps - m.live.steps) st) → ((st : State) → Stands p n (given ++ a) more st → Comes p v o ((given ++ a) ++ b) more (run (code_of p) (o.live.steps - n.live.steps) st)) → Comes p v o (given ++ (a ++ b)) more (run (code_of p) (o.live.steps - m.live.steps) st)
-comes_on p m n o v a b given more st l1 l2 c next =
+-- steps and then others, with what may come before these and what may come after them
+pub comes_on : (p : CProgram) (m n o : Machine) (v : Verdict) (a b given more rest : List ℕ) (st : State) → m.live.steps ≤ n.live.steps → n.live.steps ≤ o.live.steps → Comes p verdict.Held n (given ++ a) more (run (code_of p) (n.live.steps - m.live.steps) st) → ((z : State) → Stands p n (given ++ a) more z → Comes p v o ((given ++ a) ++ b) rest (run (code_of p) (o.live.steps - n.live.steps) z)) → Comes p v o (given ++ (a ++ b)) rest (run (code_of p) (o.live.steps - m.live.steps) st)
+comes_on p m n o v a b given more rest st l1 l2 c next =
     let d = next c.state c.stands in
     let all : (n.live.steps - m.live.steps) + (o.live.steps - n.live.steps) ≡ o.live.steps - m.live.steps = omega arith in
     record {
@@ -115,7 +116,7 @@ comes_on p m n o v a b given more st l1 l2 c next =
           ∙ ap (λ x. and_then x (run (code_of p) (o.live.steps - n.live.steps))) c.is
           ∙ sym (run_sum (code_of p) (n.live.steps - m.live.steps) (o.live.steps - n.live.steps) st)
           ∙ ap (λ k. run (code_of p) k st) all;
-      stands = subst (λ (xs : List ℕ). Stands p o xs more d.state) (append_assoc given a b) d.stands;
+      stands = subst (λ (xs : List ℕ). Stands p o xs rest d.state) (append_assoc given a b) d.stands;
     }
 
 -- a round after others
@@ -124,7 +125,7 @@ advanced_on m n o v s t u x y = record {
   text = x.text ++ y.text;
   wrote = y.wrote ∙ ap (λ w. sink_with w y.text) x.wrote ∙ sink_with-with s x.text y.text;
   later = omega (arith, x.later, y.later);
-  comes = λ p given more st h. comes_on p m n o v x.text y.text given more st x.later y.later (x.comes p given more st h) (λ z k. y.comes p (given ++ x.text) more z k);
+  comes = λ p given more st h. comes_on p m n o v x.text y.text given more more st x.later y.later (x.comes p given more st h) (λ z k. y.comes p (given ++ x.text) more z k);
 }
 
 -- a round that the sink cut short, after others
@@ -136,7 +137,7 @@ cut_on m n o s t u x y = record {
   wrote = y.wrote ∙ ap (λ w. sink_with w y.text) x.wrote ∙ sink_with-with s x.text y.text;
   part = y.part;
   later = omega (arith, x.later, y.later);
-  comes = λ p given more st h. comes_on p m n o y.verdict x.text y.text given more st x.later y.later (x.comes p given more st h) (λ z k. y.comes p (given ++ x.text) more z k);
+  comes = λ p given more st h. comes_on p m n o y.verdict x.text y.text given more more st x.later y.later (x.comes p given more st h) (λ z k. y.comes p (given ++ x.text) more z k);
 }
 
 not_true : (b : Bool) → b ≡ false → IsTrue b → ⊥

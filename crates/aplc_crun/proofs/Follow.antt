@@ -97,7 +97,7 @@ set_meets g s (int.Global n) v next f falls within sound = record {
   };
 }
 
-buf_meets : (g : Globals) (s : Setting) (p : Buf) (b : Option ℕ) (next : ℕ) (f : Flat) → Falls (s.due f.at) (s.due next) → BufIn g (s.due f.at) p → Sound g s.due f → Meets g s (go_to next (with_buf p b f)) (onward (s.due next).todo (set_buf p b (state_of s f)))
+pub buf_meets : (g : Globals) (s : Setting) (p : Buf) (b : Option ℕ) (next : ℕ) (f : Flat) → Falls (s.due f.at) (s.due next) → BufIn g (s.due f.at) p → Sound g s.due f → Meets g s (go_to next (with_buf p b f)) (onward (s.due next).todo (set_buf p b (state_of s f)))
 buf_meets g s (buf.Local n) b next f falls within sound = record {
   state = ap (λ (bufs : ℕ → Option ℕ). machine.Going (record (state_of s (record f { at = next })) { bufs = bufs })) (frame_set f.bufs n b (omega (arith, within, sound.bufs)));
   sound = record {
@@ -280,7 +280,7 @@ branch_meets g s met other f t u false first second falls_first falls_second sou
 }
 
 -- the definition's step at a statement that is known
-at_due : (c : Code) (t : Todo) (n : ℕ) (x : CStmt) (l : CStmt-F CStmt Arm) (rest : Todo) (st : State) → t ≡ (n, x) ∷ rest → out-CStmt x ≡ l → act c l n x rest st ≡ due c t st
+pub at_due : (c : Code) (t : Todo) (n : ℕ) (x : CStmt) (l : CStmt-F CStmt Arm) (rest : Todo) (st : State) → t ≡ (n, x) ∷ rest → out-CStmt x ≡ l → act c l n x rest st ≡ due c t st
 at_due c t n x l rest st e h = ap (λ y. act c y n x rest st) (sym h) ∙ ap (λ u. due c u st) (sym e)
 
 -- a statement that goes on elsewhere
@@ -370,7 +370,7 @@ act_meets g s l (form.Switch x choices other) f fit here ok sound =
     (ap (λ w. with_value w f.at (state_of s f) (λ v. onward (chosen v (f.at + 1) ok.arms ok.default ++ ok.rest) (state_of s f))) (read_here s f x)))
     (at_due (code_for s.due l) (s.due f.at).todo f.at (stmt.Switch x ok.arms ok.default) _ ok.rest (state_of s f) ok.due (stmt.outs-Switch x ok.arms ok.default))
 
-node_at : (g : Globals) (k : Due) (n i : ℕ) (cs : List Node) (nd : Node) → PartOk g k n cs → slice_get cs i ≡ Some nd → NodeOk g k (n + i) nd
+pub node_at : (g : Globals) (k : Due) (n i : ℕ) (cs : List Node) (nd : Node) → PartOk g k n cs → slice_get cs i ≡ Some nd → NodeOk g k (n + i) nd
 node_at g k n i [] nd h e = cc
 node_at g k n zero (c ∷ cs) nd h e =
     let same_place : n ≡ n + 0 = omega arith in
@@ -385,13 +385,13 @@ at_meets g s l None f fit here ok beyond sound =
     along g s _ _ _ (leave_meets g s f.callers f sound.callers sound) (ap (λ t. due (code_for s.due l) t (state_of s f)) (sym (beyond refl)))
 at_meets g s l (Some nd) f fit here ok beyond sound = act_meets g s l nd f fit here (ok nd refl) sound
 
-counted_sound : (g : Globals) (k : Due) (f : Flat) → Sound g k f → Sound g k (counted f)
+pub counted_sound : (g : Globals) (k : Due) (f : Flat) → Sound g k f → Sound g k (counted f)
 counted_sound g k f sound = record { ints = sound.ints; bufs = sound.bufs; global_ints = sound.global_ints; global_bufs = sound.global_bufs; callers = sound.callers; held = sound.held }
 
-counted_state : (g : Globals) (s : Setting) (f : Flat) → Sound g s.due f → state_of s (counted f) ≡ settled (state_of s f)
+pub counted_state : (g : Globals) (s : Setting) (f : Flat) → Sound g s.due f → state_of s (counted f) ≡ settled (state_of s f)
 counted_state g s f sound = ap (λ (h : ℕ). record (state_of s f) { steps = f.steps + 1; peak = max f.peak h }) sound.held
 
-settle_meets : (g : Globals) (s : Setting) (x : Flow) (y : Next) → Meets g s x y → Meets g s (settle x) (settled_next y)
+pub settle_meets : (g : Globals) (s : Setting) (x : Flow) (y : Next) → Meets g s x y → Meets g s (settle x) (settled_next y)
 settle_meets g s (Going f) y h = record { state = ap machine.Going (counted_state g s f h.sound) ∙ ap settled_next h.state; sound = counted_sound g s.due f h.sound }
 settle_meets g s (Ended f) y h = record { state = ap machine.Ended (counted_state g s f h.sound) ∙ ap settled_next h.state; sound = counted_sound g s.due f h.sound }
 settle_meets g s (Faulted c f) y h = record { state = ap (machine.Faulted c) (counted_state g s f h.sound) ∙ ap settled_next h.state; sound = counted_sound g s.due f h.sound }

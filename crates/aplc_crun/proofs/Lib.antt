@@ -1,9 +1,13 @@
 mod Advancing
 mod Callers
+mod Decoding
 mod Follow
 mod Frames
+mod Gathering
 mod Laid
 mod Numbers
 mod Parts
+mod ReadSteps
+mod RunsOn
 mod Standing
 mod Turns

@@ -133,6 +133,13 @@ other_buf (Some q) f = named_buf q (env f)
 abbrev pub with_cells : ℕ → Flat → Flat
 with_cells k f = record f { heap = f.heap ++ Some (replicate k (pos 0)) ∷ []; held = f.held + k }
 
+-- the cells of a line in a new buffer, and how many they are
+abbrev pub with_read : List ℤ → Flat → Flat
+with_read cells f = record f { heap = f.heap ++ Some cells ∷ []; held = f.held + length cells; read_count = pos (length cells) }
+
+abbrev pub lined : Buf → List ℤ → ℕ → Flat → Flat
+lined p cells next f = record (with_buf p (Some (length f.heap)) (with_read cells f)) { at = next }
+
 abbrev pub make_cells : Buf → ℤ → ℕ → Flat → Flow
 make_cells p (pos k) next f = if nat_lt k (2 ^ 31) then go_to next (with_buf p (Some (length f.heap)) (with_cells k f)) else Stuck Range f
 make_cells p (negsuc k) next f = Stuck Range f

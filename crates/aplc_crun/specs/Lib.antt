@@ -5,3 +5,7 @@ pub mod Building
 pub mod Pausing
 pub mod Running
 pub mod Advancing
+pub mod Ran
+pub mod Gathering
+pub mod Decoding
+pub mod Reading

@@ -4,7 +4,7 @@ use Rattle.aplc_crun.specs.declared.code.Node.{Node}
 use Rattle.aplc_crun.specs.declared.code.Node.TheVariants as form
 use Rattle.aplc_crun.specs.declared.live.Verdict.{Verdict}
 use Rattle.aplc_crun.specs.declared.live.Verdict.TheVariants as verdict
-use Rattle.aplc_crun.specs.Flat.{Flat, Flow, Going, Ended, Faulted, Stuck}
+use Rattle.aplc_crun.specs.Flat.{Flat, Flow, Going, Ended, Faulted, Stuck, TakesMemory}
 
 -- what stands where steps were taken until one was held, or until one was the last
 abbrev pub paused : Verdict → Flat → Flow
@@ -32,3 +32,8 @@ IsRead _ = ⊥
 abbrev pub ReadIsDue : Option Node → Type 0
 ReadIsDue None = ⊥
 ReadIsDue (Some n) = IsRead n
+
+-- the next statement due may take memory
+abbrev pub MemoryIsDue : Option Node → Type 0
+MemoryIsDue None = ⊥
+MemoryIsDue (Some n) = TakesMemory n

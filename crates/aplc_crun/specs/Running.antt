@@ -1,12 +1,12 @@
 -- The state of the definition that a machine stands for.
-use Rattle.std.specs.Prelude.{◌≡◌, ℕ, List, [], ◌∷◌, ◌++◌, pos, replicate, IsTrue}
+use Rattle.std.specs.Prelude.{◌≡◌, ℕ, List, [], ◌∷◌, ◌++◌, ℤ, pos, replicate, slice_get, IsTrue}
 use Rattle.aplc_cprof.specs.declared.syntax.CProgram.{CProgram}
 use Rattle.aplc_cprof.specs.Machine.{State, Next, code_of}
 use Rattle.aplc_cprof.specs.Machine as machine
 use Rattle.aplc_crun.specs.declared.code.Entry.{Entry}
 use Rattle.aplc_crun.specs.declared.code.Laid.{Laid}
 use Rattle.aplc_crun.specs.declared.machine.Machine.{Machine}
-use Rattle.aplc_crun.specs.Laying.{Due, Setting, IsLaid, Sound, code_for, state_of}
+use Rattle.aplc_crun.specs.Laying.{Due, Setting, IsLaid, Sound, code_for, state_of, marked_name, marked_line}
 use Rattle.aplc_crun.specs.Building.{globals}
 use Rattle.aplc_crun.specs.declared.live.Verdict.{Verdict}
 use Rattle.aplc_crun.specs.declared.live.Verdict.TheVariants as verdict
@@ -64,3 +64,10 @@ start_flat e ints bufs mark = record {
 -- whether a machine can run
 abbrev pub CanRun : Machine → Type 0
 CanRun m = IsTrue m.ready
+
+-- the place where a machine stands: the name of the function, and the line
+abbrev pub place_name : Machine → List ℕ
+place_name m = marked_name (slice_get m.laid.nodes.items m.live.mark)
+
+abbrev pub place_line : Machine → ℤ
+place_line m = marked_line (slice_get m.laid.nodes.items m.live.mark)

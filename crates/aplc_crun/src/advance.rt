@@ -1,12 +1,12 @@
 //! Runs a machine up to its next read, and hands its output over.
 //! It must not know how a read is carried out.
 
-ghost use Rattle.std.specs.Prelude.{◌≡◌, ◌+◌, ◌-◌, ◌<◌, ◌≤◌, ◌^◌, ◌*◌, [], length, min, IfOk, IsTrue, ◌↔◌, IfSome, OnOk, OnErr, IsErrOf, slice_get};
+ghost use Rattle.std.specs.Prelude.{◌≡◌, ◌+◌, ◌-◌, ◌<◌, ◌≤◌, ◌^◌, ◌*◌, [], length, min, IfOk, IsTrue, ◌↔◌, OnOk, OnErr, IsErrOf, slice_get};
 ghost use Rattle.aplc_io.specs.Outside.{sink_with};
 ghost use Rattle.aplc_io.specs.Parts.{PartWritten};
 ghost use Rattle.aplc_crun.specs.declared.live.Verdict.TheVariants as verdict;
-ghost use Rattle.aplc_crun.specs.Flat.{flat_of, TakesMemory};
-ghost use Rattle.aplc_crun.specs.Pausing.{ReadIsDue};
+ghost use Rattle.aplc_crun.specs.Flat.{flat_of};
+ghost use Rattle.aplc_crun.specs.Pausing.{ReadIsDue, MemoryIsDue};
 ghost use Rattle.aplc_crun.specs.Advancing.{emptied, Advanced, Cut};
 
 use crate::code::Node;
@@ -57,12 +57,14 @@ fn round<O: Sink>(machine: &mut Machine, out: &mut O, budget: u64) -> Result<Ver
     ensures least { machine.old.live.steps ≤ machine.new.live.steps }
     ensures most { machine.new.live.steps ≤ machine.old.live.steps + budget }
     ensures advanced { IfOk result (λ v. Advanced machine.old (O.state out.old) v machine.new (O.state out.new)) }
+    ensures kept { machine.new ≡ record machine.old { live = machine.new.live } }
     ensures empty { OnOk result (machine.new.live.out.bytes.items ≡ []) }
+    ensures drained { IsErrOf result Halt.Memory → machine.new.live.out.bytes.items ≡ [] }
     ensures spent { IfOk result (λ v. v ≡ verdict.Going → machine.new.live.steps ≡ machine.old.live.steps + budget) }
     ensures left { IfOk result (λ v. v ≡ verdict.Held → machine.new.live.steps < machine.old.live.steps + budget) }
     ensures progress { IfOk result (λ v. v ≡ verdict.Held → machine.old.live.out.bytes.items ≡ [] → (ReadIsDue (slice_get machine.new.laid.nodes.items machine.new.live.at) → ⊥) → machine.old.live.steps < machine.new.live.steps) }
     ensures memory { IsErrOf result Halt.Memory → Advanced machine.old (O.state out.old) verdict.Held machine.new (O.state out.new) }
-    ensures hungry { IsErrOf result Halt.Memory → IfSome (slice_get machine.new.laid.nodes.items machine.new.live.at) TakesMemory }
+    ensures hungry { IsErrOf result Halt.Memory → MemoryIsDue (slice_get machine.new.laid.nodes.items machine.new.live.at) }
     ensures cut { IsErrOf result Halt.Write → Cut machine.old (O.state out.old) machine.new (O.state out.new) }
 {
     match run_live(machine.alloc, &machine.laid, &mut machine.live, budget) {
@@ -83,11 +85,14 @@ pub fn advance<O: Sink>(machine: &mut Machine, out: &mut O, budget: u64) -> Resu
     requires { machine.old.live.steps + budget < 2 ^ 64 }
     ensures most { machine.new.live.steps ≤ machine.old.live.steps + budget }
     ensures advanced { IfOk result (λ v. Advanced machine.old (O.state out.old) v machine.new (O.state out.new)) }
+    ensures kept { machine.new ≡ record machine.old { live = machine.new.live } }
     ensures empty { OnOk result (machine.new.live.out.bytes.items ≡ []) }
+    ensures drained { IsErrOf result Halt.Memory → machine.new.live.out.bytes.items ≡ [] }
     ensures spent { IfOk result (λ v. v ≡ verdict.Going → machine.new.live.steps ≡ machine.old.live.steps + budget) }
+    ensures left { IfOk result (λ v. v ≡ verdict.Held → machine.new.live.steps < machine.old.live.steps + budget) }
     ensures held { IfOk result (λ v. v ≡ verdict.Held → ReadIsDue (slice_get machine.new.laid.nodes.items machine.new.live.at)) }
     ensures memory { IsErrOf result Halt.Memory → Advanced machine.old (O.state out.old) verdict.Held machine.new (O.state out.new) }
-    ensures hungry { IsErrOf result Halt.Memory → IfSome (slice_get machine.new.laid.nodes.items machine.new.live.at) TakesMemory }
+    ensures hungry { IsErrOf result Halt.Memory → MemoryIsDue (slice_get machine.new.laid.nodes.items machine.new.live.at) }
     ensures cut { IsErrOf result Halt.Write → Cut machine.old (O.state out.old) machine.new (O.state out.new) }
 {
     let mut left = budget;

@@ -63,6 +63,20 @@ impl Heap {
         }
     }
 
+    /// A new buffer with these cells. Refused, it changes nothing.
+    pub fn add(&mut self, cells: Vec<i64>) -> Result<(), AllocError>
+        requires { length cells.items < 2 ^ 31 }
+        ensures buffers { OnOk result (self.new.buffers.items ≡ self.old.buffers.items ++ Some cells.items ∷ []) }
+        ensures held { OnOk result (self.new.held ≡ self.old.held + length cells.items) }
+        ensures kept { OnErr result (self.new.buffers.items ≡ self.old.buffers.items) }
+        ensures kept_held { OnErr result (self.new.held ≡ self.old.held) }
+    {
+        let count = cells.len();
+        self.buffers.push(Some(Items::from_vec(cells)))?;
+        self.held += count as u128;
+        Ok(())
+    }
+
     /// A new buffer of cells that are all 0. Refused, it changes nothing.
     pub fn make(&mut self, alloc: Global, count: usize) -> Result<(), AllocError>
         requires { count < 2 ^ 31 }

@@ -5,14 +5,20 @@
 mod advance;
 mod arith;
 mod code;
+mod decode;
 mod eval;
+mod gather;
 mod heap;
 mod lay;
 mod live;
 mod machine;
 mod pending;
 mod print;
+mod reading;
 mod run_live;
+#[cfg(test)]
+mod run_tests;
+mod running;
 mod sizes;
 mod step;
 mod stop;

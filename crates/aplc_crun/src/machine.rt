@@ -1,20 +1,24 @@
 //! A program and what has become of its run.
 //! It must not know how a statement is carried out.
 
-ghost use Rattle.std.specs.Prelude.{◌≡◌, ℕ, List, [], IfOk, IsTrue, ◌↔◌, slice_get};
+ghost use Rattle.std.specs.Prelude.{◌≡◌, ◌+◌, ◌<◌, ◌≤◌, ◌^◌, ℕ, List, [], false, IfOk, Err, IsTrue, ◌↔◌, slice_get};
 ghost use Rattle.aplc_cprof.specs.declared.syntax.CProgram.{CProgram};
 ghost use Rattle.aplc_cprof.specs.Machine.{State, code_of, initial, held};
 ghost use Rattle.aplc_crun.specs.Flat.{flat_of};
 ghost use Rattle.aplc_crun.specs.Laying.{marked_name, marked_line};
-ghost use Rattle.aplc_crun.specs.Running.{Stands, StartsAt, start_flat, CanRun};
+ghost use Rattle.aplc_crun.specs.Running.{Stands, StartsAt, start_flat, CanRun, place_name, place_line};
+ghost use Rattle.aplc_crun.specs.Ran.{Ran};
 
 use crate::code::{Entry, Laid, Node};
 use crate::heap::Heap;
 use crate::lay::lay;
 use crate::live::Live;
 use crate::pending::Pending;
+use crate::running::{is_spent, turns};
 use crate::step::{null, unset};
+use crate::stop::RunStop;
 use aplc_cprof::CProgram;
+use aplc_io::{Sink, Source};
 use std::alloc::{AllocError, Global};
 
 /// A program of the C profile, and the state of its run.
@@ -24,8 +28,10 @@ pub struct Machine {
     pub(crate) laid: Laid,
     pub(crate) live: Live,
     /// Bytes of the input that were read and not used yet.
-    ahead: Vec<u8>,
-    ready: bool,
+    pub(crate) ahead: Vec<u8>,
+    /// Whether a read has met the end of the input.
+    pub(crate) ended: bool,
+    pub(crate) ready: bool,
 }
 
 fn first(entries: &[Entry]) -> Entry
@@ -92,6 +98,7 @@ impl Machine {
     pub fn start(alloc: Global, program: CProgram) -> Result<Machine, AllocError>
         ensures stands { IfOk result (λ m. (input : List ℕ) → Stands program m [] input (initial (code_of program) input)) }
         ensures ready { IfOk result CanRun }
+        ensures fresh { IfOk result (λ m. (m.live.steps ≡ 0) × (m.ended ≡ false)) }
     {
         let ints = program.ints;
         let bufs = program.bufs;
@@ -103,8 +110,39 @@ impl Machine {
             laid,
             live,
             ahead: Vec::new(alloc),
+            ended: false,
             ready: true,
         })
+    }
+
+    /// Runs the program for at most `budget` steps, from where the last run stopped.
+    ///
+    /// It reads from `input` where a statement reads, up to the end of a line or a little further; what was read and
+    /// not taken is kept for the next run. Once a read has given no byte, the input is not asked again. At each
+    /// answer but `WriteFault` all of the output so far was handed over to `out`.
+    ///
+    /// - Ok: the program came to its end.
+    /// - `Fault`: it ended with a fault.
+    /// - `Spent`: all of the budget was spent. The program can run on.
+    /// - `Stuck`: the machine is stuck at the statement of this number.
+    /// - `ReadFault`: the input failed at a statement that reads. The statement is not counted as a step.
+    /// - `WriteFault`: the output refused what was to be handed over, or a part of it.
+    /// - `Memory`: no memory was left for new cells, a call or a line. The statement is not counted as a step.
+    pub fn run<S: Source, O: Sink>(
+        &mut self,
+        input: &mut S,
+        out: &mut O,
+        budget: u64,
+    ) -> Result<(), RunStop>
+        requires can { CanRun self.old }
+        requires room { self.old.live.steps + budget < 2 ^ 64 }
+        ensures most { self.new.live.steps ≤ self.old.live.steps + budget }
+        ensures ran { Ran self.old (S.state input.old) (O.state out.old) budget self.new (S.state input.new) (O.state out.new) result }
+        ensures again { CanRun self.new ↔ (result ≡ Err RunStop.Spent) }
+    {
+        let answer = turns(self, input, out, budget);
+        self.ready = is_spent(&answer);
+        answer
     }
 
     /// Whether no run was made, or the last one spent its budget.
@@ -116,14 +154,16 @@ impl Machine {
 
     /// The name of the function where the run stands, at first empty.
     pub fn place_name(&self) -> &[u8]
-        ensures { (p : CProgram) (given more : List ℕ) (st : State) → Stands p self.now given more st → result.now ≡ st.name }
+        ensures told { result.now ≡ place_name self.now }
+        ensures stands { (p : CProgram) (given more : List ℕ) (st : State) → Stands p self.now given more st → result.now ≡ st.name }
     {
         name_at(self.laid.nodes.as_slice(), self.live.mark)
     }
 
     /// The line where the run stands, at first 0.
     pub fn place_line(&self) -> i64
-        ensures { (p : CProgram) (given more : List ℕ) (st : State) → Stands p self.now given more st → result ≡ st.line }
+        ensures told { result ≡ place_line self.now }
+        ensures stands { (p : CProgram) (given more : List ℕ) (st : State) → Stands p self.now given more st → result ≡ st.line }
     {
         line_at(self.laid.nodes.as_slice(), self.live.mark)
     }

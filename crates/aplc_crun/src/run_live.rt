@@ -1,10 +1,10 @@
 //! Takes steps until one is held, one is the last, or enough were taken.
 //! It must not know where input comes from and output goes.
 
-ghost use Rattle.std.specs.Prelude.{◌≡◌, ◌+◌, ◌-◌, ◌<◌, ◌≤◌, ◌^◌, [], IfOk, IfSome, OnErr, slice_get};
+ghost use Rattle.std.specs.Prelude.{◌≡◌, ◌+◌, ◌-◌, ◌<◌, ◌≤◌, ◌^◌, [], IfOk, OnErr, slice_get};
 ghost use Rattle.aplc_crun.specs.declared.live.Verdict.TheVariants as verdict;
-ghost use Rattle.aplc_crun.specs.Flat.{flat_of, layout_of, flat_step, flat_run, TakesMemory, Going, Held};
-ghost use Rattle.aplc_crun.specs.Pausing.{paused, ReadIsDue};
+ghost use Rattle.aplc_crun.specs.Flat.{flat_of, layout_of, flat_step, flat_run, Going, Held};
+ghost use Rattle.aplc_crun.specs.Pausing.{paused, ReadIsDue, MemoryIsDue};
 
 use crate::code::Laid;
 use crate::live::{Live, Verdict};
@@ -29,7 +29,7 @@ pub fn run_live(
     ensures held { IfOk result (λ v. v ≡ verdict.Held → flat_step (layout_of laid.now) (flat_of live.new) ≡ Held (flat_of live.new)) }
     ensures progress { IfOk result (λ v. v ≡ verdict.Held → live.old.out.bytes.items ≡ [] → (ReadIsDue (slice_get laid.now.nodes.items live.new.at) → ⊥) → live.old.steps < live.new.steps) }
     ensures kept { OnErr result (Going (flat_of live.new) ≡ flat_run (layout_of laid.now) (live.new.steps - live.old.steps) (flat_of live.old)) }
-    ensures hungry { OnErr result (IfSome (slice_get laid.now.nodes.items live.new.at) TakesMemory) }
+    ensures hungry { OnErr result (MemoryIsDue (slice_get laid.now.nodes.items live.new.at)) }
 {
     for turn in 0..budget {
         match step(alloc, laid, live)? {

@@ -1,11 +1,11 @@
 //! One step of a run.
 //! It must not know how the statements were laid out, nor where input comes from and output goes.
 
-ghost use Rattle.std.specs.Prelude.{◌≡◌, ◌+◌, ◌<◌, ◌^◌, ℕ, IfOk, IfSome, OnErr, OnOk, slice_get};
+ghost use Rattle.std.specs.Prelude.{◌≡◌, ◌+◌, ◌<◌, ◌^◌, ℕ, IfOk, OnErr, OnOk, slice_get};
 ghost use Rattle.aplc_cprof.specs.declared.syntax.CExpr.{CExpr};
 ghost use Rattle.aplc_crun.specs.declared.code.Node.TheVariants as node;
 ghost use Rattle.aplc_crun.specs.Flat.{flat_of, layout_of, flow_of, with_int, with_buf, go_to, make_cells, free_cells, free_found, write_cell, put_text, put_number, put_character, leave_to, none_of, entered, enter, picked, counted, flat_act, act_at, flat_step, TakesMemory, other_buf, IsCellCount, IsCharacter};
-ghost use Rattle.aplc_crun.specs.Pausing.{taken};
+ghost use Rattle.aplc_crun.specs.Pausing.{taken, MemoryIsDue};
 
 use crate::arith::checked_value;
 use crate::code::{Choice, Entry, Laid, Node};
@@ -38,9 +38,10 @@ fn put_int(live: &mut Live, x: Int, v: i64, next: usize) -> Verdict
     Verdict::Going
 }
 
-fn put_buf(live: &mut Live, p: Buf, b: Option<usize>, next: usize) -> Verdict
+/// Lets a variable name a buffer.
+pub fn name_buf(live: &mut Live, p: Buf, b: Option<usize>)
     ensures steps { live.new.steps ≡ live.old.steps }
-    ensures went { flow_of result (flat_of live.new) ≡ go_to next (with_buf p b (flat_of live.old)) }
+    ensures named { flat_of live.new ≡ with_buf p b (flat_of live.old) }
 {
     match p {
         Buf::Local(n) => {
@@ -56,6 +57,13 @@ fn put_buf(live: &mut Live, p: Buf, b: Option<usize>, next: usize) -> Verdict
             }
         }
     }
+}
+
+fn put_buf(live: &mut Live, p: Buf, b: Option<usize>, next: usize) -> Verdict
+    ensures steps { live.new.steps ≡ live.old.steps }
+    ensures went { flow_of result (flat_of live.new) ≡ go_to next (with_buf p b (flat_of live.old)) }
+{
+    name_buf(live, p, b);
     live.at = next;
     Verdict::Going
 }
@@ -444,7 +452,7 @@ fn act(alloc: Global, laid: &Laid, live: &mut Live, node: &Node) -> Result<Verdi
 
 /// The step is counted, and the cells held are compared with the most so far.
 #[inline]
-fn count(live: &mut Live)
+pub fn count(live: &mut Live)
     requires { live.old.steps + 1 < 2 ^ 64 }
     ensures counted { flat_of live.new ≡ counted (flat_of live.old) }
     ensures steps { live.new.steps ≡ live.old.steps + 1 }
@@ -463,7 +471,7 @@ pub fn step(alloc: Global, laid: &Laid, live: &mut Live) -> Result<Verdict, Allo
     ensures steps { IfOk result (λ v. live.new.steps ≡ live.old.steps + taken v) }
     ensures kept { OnErr result (flat_of live.new ≡ flat_of live.old) }
     ensures kept_steps { OnErr result (live.new.steps ≡ live.old.steps) }
-    ensures hungry { OnErr result (IfSome (slice_get laid.now.nodes.items live.old.at) TakesMemory) }
+    ensures hungry { OnErr result (MemoryIsDue (slice_get laid.now.nodes.items live.old.at)) }
 {
     let verdict = match laid.nodes.get(live.at) {
         None => leave(live),

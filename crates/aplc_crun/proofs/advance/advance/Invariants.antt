@@ -6,6 +6,7 @@ use Rattle.aplc_crun.proofs.advance.advance.Given as goal
 abbrev pub invariant-rounds : goal.invariant-rounds
 invariant-rounds g l = record {
   steps : l.machine.live.steps + l.left ≡ l.fn.machine.live.steps + l.budget;
+  kept : l.machine ≡ record l.fn.machine { live = l.machine.live };
   advanced : Advanced l.fn.machine (g.O.Sink.state l.fn.out) verdict.Held l.machine (g.O.Sink.state l.out);
 }
 

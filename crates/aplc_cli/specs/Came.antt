@@ -1,0 +1,121 @@
+-- What the work of a call comes to, what is said of it on err, and the status.
+use Rattle.std.specs.Prelude.{ℕ, ℤ, nat_eq, ◌||◌, if◌then◌else◌, List, [], ◌++◌, Result, Ok, Err, codes}
+use Rattle.std.specs.Fmt.{decimal, signed_decimal}
+use Rattle.aplc_scalar.specs.declared.kind.FaultKind.{FaultKind}
+use Rattle.aplc_scalar.specs.declared.kind.FaultKind.TheVariants as fault
+use Rattle.aplc_cprof.specs.declared.syntax.StuckCause.{StuckCause}
+use Rattle.aplc_cprof.specs.declared.syntax.StuckCause.TheVariants as cause
+use Rattle.aplc_cprof.specs.Behaviour.{Standing}
+use Rattle.aplc_cprof.specs.Behaviour as standing
+use Rattle.aplc_crun.specs.Running.{place_name, place_line}
+use Rattle.aplc_cli.specs.declared.refusal.Refusal.{Refusal}
+use Rattle.aplc_cli.specs.declared.status.Ending.{Ending}
+use Rattle.aplc_cli.specs.declared.status.Ending.TheVariants as ending
+use Rattle.aplc_cli.specs.declared.status.RunEnd.TheVariants as end
+use Rattle.aplc_cli.specs.declared.status.Stop.{Stop}
+use Rattle.aplc_cli.specs.declared.status.Stop.TheVariants as stop
+use Rattle.aplc_cli.specs.declared.status.Status.{Status}
+use Rattle.aplc_cli.specs.declared.status.Status.TheVariants as status
+
+-- What the work comes to where nothing outside fails: the text was handed over, or it was carried out and ended,
+-- faulted with a kind at a function and a line, spent its steps, or got stuck.
+pub data Came : Type 0 where
+  Compiled : Came
+  Ended : Came
+  Faulted : FaultKind → List ℕ → ℤ → Came
+  Spent : Came
+  Stuck : StuckCause → ℕ → Came
+
+abbrev pub came_of : Standing → Came
+came_of (standing.Ended o) = Ended
+came_of (standing.Faulted o k f l) = Faulted k f l
+came_of (standing.Going o) = Spent
+came_of (standing.Stuck o c n) = Stuck c n
+
+-- the same of what the code keeps: the place of a fault is the machine's
+abbrev pub told : Ending → Came
+told ending.Compiled = Compiled
+told (ending.Ran end.Ended m) = Ended
+told (ending.Ran (end.Faulted k) m) = Faulted k (place_name m) (place_line m)
+told (ending.Ran end.Spent m) = Spent
+told (ending.Ran (end.Stuck c n) m) = Stuck c n
+
+abbrev pub result_map : {T U E : Type 0} → (T → U) → Result T E → Result U E
+result_map f (Ok x) = Ok (f x)
+result_map f (Err e) = Err e
+
+-- ---- The line on err
+
+abbrev pub text_word : ℕ → List ℕ
+text_word n =
+    if nat_eq n 30 then codes "PREAMBLE" else (if nat_eq n 31 then codes "BYTE" else (if nat_eq n 32 then codes "FORM"
+    else (if nat_eq n 33 then codes "NAME" else (if nat_eq n 34 then codes "NESTING" else codes "LATER"))))
+
+abbrev pub refusal_word : ℕ → List ℕ
+refusal_word n = if nat_eq n 23 || nat_eq n 35 then codes "TOO LONG" else text_word n
+
+abbrev pub fault_word : FaultKind → List ℕ
+fault_word fault.Domain = codes "DOMAIN"
+fault_word fault.Index = codes "INDEX"
+fault_word fault.Length = codes "LENGTH"
+fault_word fault.Limit = codes "LIMIT"
+fault_word fault.Rank = codes "RANK"
+fault_word fault.Value = codes "VALUE"
+fault_word fault.Input = codes "INPUT"
+
+abbrev pub cause_word : StuckCause → List ℕ
+cause_word cause.Outside = codes "OUTSIDE"
+cause_word cause.Freed = codes "FREED"
+cause_word cause.Unset = codes "UNSET"
+cause_word cause.Range = codes "RANGE"
+
+abbrev pub usage_line : List ℕ
+usage_line =
+    codes "usage: aplc [-o NAME] FILE; aplc --run [--steps M] [--stats] [-o NAME] FILE; aplc --check FILE; "
+    ++ codes "aplc --exec [--steps M] [--stats] FILE; aplc --make N\n"
+
+abbrev pub refusal_line : Refusal → List ℕ
+refusal_line r = codes "REFUSED " ++ (decimal r.number ++ (codes " " ++ (refusal_word r.number ++ (codes " AT " ++ (decimal r.place ++ codes "\n")))))
+
+abbrev pub fault_line : FaultKind → List ℕ → ℤ → List ℕ
+fault_line k name l = fault_word k ++ (codes " ERROR " ++ (name ++ (codes "[" ++ (signed_decimal l ++ codes "]\n"))))
+
+abbrev pub stuck_line : StuckCause → ℕ → List ℕ
+stuck_line c n = codes "STUCK " ++ (cause_word c ++ (codes " AT " ++ (decimal n ++ codes "\n")))
+
+abbrev pub line : Result Came Stop → List ℕ
+line (Ok Compiled) = []
+line (Ok Ended) = []
+line (Ok (Faulted k name l)) = fault_line k name l
+line (Ok Spent) = codes "STEP LIMIT\n"
+line (Ok (Stuck c n)) = stuck_line c n
+line (Err stop.Usage) = usage_line
+line (Err (stop.Refused r)) = refusal_line r
+line (Err stop.ReadFault) = codes "READ FAULT\n"
+line (Err stop.WriteFault) = codes "WRITE FAULT\n"
+line (Err stop.Memory) = codes "NO MEMORY\n"
+
+-- ---- The status
+
+abbrev pub status_of : Result Came Stop → Status
+status_of (Ok Compiled) = status.Done
+status_of (Ok Ended) = status.Done
+status_of (Ok (Faulted k name l)) = status.Faulted
+status_of (Ok Spent) = status.Spent
+status_of (Ok (Stuck c n)) = status.Stuck
+status_of (Err stop.Usage) = status.Usage
+status_of (Err (stop.Refused r)) = status.Refused
+status_of (Err stop.ReadFault) = status.ReadFault
+status_of (Err stop.WriteFault) = status.WriteFault
+status_of (Err stop.Memory) = status.Memory
+
+abbrev pub code_of : Status → ℕ
+code_of status.Done = 0
+code_of status.Faulted = 1
+code_of status.Refused = 2
+code_of status.Usage = 3
+code_of status.ReadFault = 4
+code_of status.WriteFault = 5
+code_of status.Spent = 6
+code_of status.Memory = 7
+code_of status.Stuck = 8

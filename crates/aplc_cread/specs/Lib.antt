@@ -1,0 +1,11 @@
+pub mod Reading
+pub mod Leading
+pub mod Ranges
+pub mod Exprs
+pub mod Stmts
+pub mod AplNames
+pub mod Listings
+pub mod Tables
+pub mod Functions
+pub mod Refusal
+pub mod Programs

@@ -23,8 +23,8 @@ microseconds() { # the least of ten runs
   done
   echo "$best"
 }
-ours=$(microseconds "$top/crates/aplc/out/aplc" --exec "$work/loop.c")
-theirs=$(microseconds "$work/loop")
+ours=$(microseconds "$top/crates/aplc/out/aplc" --exec "$work/loop.c") || exit 1
+theirs=$(microseconds "$work/loop") || exit 1
 echo "aplc --exec: $ours µs, $((10000000 / (ours / 1000 + 1) / 1000)) million steps a second"
 echo "$compiler -O0: $theirs µs"
 echo "ratio: $((ours * 10 / theirs / 10)).$((ours * 10 / theirs % 10))"

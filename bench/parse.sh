@@ -1,0 +1,47 @@
+#!/usr/bin/env bash
+# Builds a small program over the readers of tokens and programs, outside the repository, and prints how long it takes
+# for sources of 262,144 bytes.
+set -u
+top=$(cd "$(dirname "$(readlink -f "${BASH_SOURCE[0]}")")/.." && pwd)
+work=$(mktemp -d) || exit 1
+trap 'rm -rf "$work"' EXIT
+mkdir -p "$work/crates/parse/src" "$work/crates/parse/specs"
+cp "$top/HANDLES" "$work/"
+{ cat "$top/crates.txt"; echo 'parse: aplc_io aplc_lex aplc_syntax anyhow'; } >"$work/crates.txt"
+for crate in "$top"/crates/*/; do ln -s "$crate" "$work/crates/"; done
+cp "$top/bench/parse/main.rt" "$work/crates/parse/src/main.rt"
+touch "$work/crates/parse/specs/Lib.antt"
+(cd "$work/crates/parse" && rt run >"$work/log" 2>&1 </dev/null)
+program=$work/crates/parse/out/parse
+[ -x "$program" ] || { cat "$work/log" >&2; exit 1; }
+
+lines() { # a function of lines LINE, LIMIT bytes in all
+  line=$1 limit=$2
+  printf '∇MAIN\n'
+  size=$((limit - 16)) n=$((($(printf '%s\n' "$line" | wc -c))))
+  for ((i = 0; i < size / n && i < 998; i++)); do printf '%s\n' "$line"; done
+  printf '∇\n'
+}
+functions() { # many small functions
+  printf '∇MAIN\n∇\n'
+  for ((i = 0; i < 990; i++)); do
+    printf '∇R←F%d B;X\n' "$i"
+    for ((k = 0; k < 12; k++)); do printf 'X←B+%d\n' "$k"; done
+    printf 'R←X\n∇\n'
+  done
+}
+lines "$(printf '%.0s7-' {1..127})7" 262144 >"$work/sums.apl"
+lines "$(printf '%.0s(' {1..31})A[1;2]←+/B∘.×⍉'it''s'$(printf '%.0s)' {1..31})" 262144 >"$work/forms.apl"
+functions >"$work/functions.apl"
+milliseconds() { # the least of ten runs
+  best=
+  for _ in {1..10}; do
+    start=$(date +%s%N); "$@" >/dev/null; end=$(date +%s%N)
+    spent=$(((end - start) / 1000))
+    if [ -z "$best" ] || [ "$spent" -lt "$best" ]; then best=$spent; fi
+  done
+  printf '%d.%03d ms' $((best / 1000)) $((best % 1000))
+}
+for name in sums forms functions; do
+  echo "$name: $(wc -c <"$work/$name.apl") bytes, $("$program" "$work/$name.apl"), $(milliseconds "$program" "$work/$name.apl")"
+done

@@ -1,0 +1,15 @@
+pub mod Words
+pub mod Grammar
+pub mod Trees
+pub mod Layout
+pub mod Programs
+pub mod Refusals
+pub mod Steps
+pub mod Reading
+pub mod Building
+pub mod Seen
+pub mod Items
+pub mod Held
+pub mod Numbers
+pub mod Causes
+pub mod Noted

@@ -1,0 +1,36 @@
+//! The program of an APL source as trees, or the first refusal of a source that has none.
+//! It must not know the scopes of names, nor what a program does.
+#![tactic(auto)]
+
+mod building;
+mod checking;
+mod earliest;
+#[cfg(test)]
+mod form_tests;
+mod functions;
+mod header;
+mod items;
+mod laws;
+mod layout;
+mod names;
+mod outside;
+mod parsing;
+mod reading;
+mod roles;
+mod stack;
+mod statement;
+#[cfg(test)]
+mod statement_tests;
+mod step;
+#[cfg(test)]
+mod tests;
+mod texts;
+mod tree;
+mod word;
+
+pub use aplc_lex::{List, Refusal, Stop};
+pub use laws::{one_program, one_statement};
+pub use parsing::parse;
+pub use tree::{
+    Axis, Form, Function, Line, NameId, Named, Node, NodeId, Prim, Program, Statement, Var,
+};

@@ -3,6 +3,7 @@
 # for sources of 262,144 bytes.
 set -u
 top=$(cd "$(dirname "$(readlink -f "${BASH_SOURCE[0]}")")/.." && pwd)
+. "$top/bench/timing.sh"
 work=$(mktemp -d) || exit 1
 trap 'rm -rf "$work"' EXIT
 mkdir -p "$work/crates/parse/src" "$work/crates/parse/specs"
@@ -33,15 +34,6 @@ functions() { # many small functions
 lines "$(printf '%.0s7-' {1..127})7" 262144 >"$work/sums.apl"
 lines "$(printf '%.0s(' {1..31})A[1;2]←+/B∘.×⍉'it''s'$(printf '%.0s)' {1..31})" 262144 >"$work/forms.apl"
 functions >"$work/functions.apl"
-milliseconds() { # the least of ten runs
-  best=
-  for _ in {1..10}; do
-    start=$(date +%s%N); "$@" >/dev/null; end=$(date +%s%N)
-    spent=$(((end - start) / 1000))
-    if [ -z "$best" ] || [ "$spent" -lt "$best" ]; then best=$spent; fi
-  done
-  printf '%d.%03d ms' $((best / 1000)) $((best % 1000))
-}
 for name in sums forms functions; do
-  echo "$name: $(wc -c <"$work/$name.apl") bytes, $("$program" "$work/$name.apl"), $(milliseconds "$program" "$work/$name.apl")"
+  echo "$name: $(wc -c <"$work/$name.apl") bytes, $("$program" "$work/$name.apl"), $(milliseconds "$(least 10 "$program" "$work/$name.apl")")"
 done

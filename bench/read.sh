@@ -2,22 +2,14 @@
 # Prints how long the built program takes to read a C text of 60 MB, where it is refused at its last byte and where it is not.
 set -u
 top=$(cd "$(dirname "$(readlink -f "${BASH_SOURCE[0]}")")/.." && pwd)
+. "$top/bench/timing.sh"
 work=$(mktemp -d) || exit 1
 trap 'rm -rf "$work"' EXIT
 printf '∇MAIN\n∇\n' >"$work/empty.apl"
 "$top/aplc" "$work/empty.apl" >"$work/empty.c" || exit 1
 python3 "$top/bench/c_text.py" "$work/empty.c" 60000000 >"$work/large.c" || exit 1
 { cat "$work/large.c"; printf 'x'; } >"$work/more.c"
-seconds() { # the least of three runs
-  best=
-  for _ in 1 2 3; do
-    start=$(date +%s%N); "$@" >/dev/null 2>&1 </dev/null; end=$(date +%s%N)
-    spent=$(((end - start) / 1000000))
-    if [ -z "$best" ] || [ "$spent" -lt "$best" ]; then best=$spent; fi
-  done
-  printf '%d.%03d s' $((best / 1000)) $((best % 1000))
-}
 echo "text: $(wc -c <"$work/large.c") bytes"
-echo "read, and one step:       $(seconds "$top/crates/aplc/out/aplc" --exec --steps 1 "$work/large.c")"
-echo "refused behind its tail:  $(seconds "$top/crates/aplc/out/aplc" --exec --steps 1 "$work/more.c")"
-echo "cat:                      $(seconds cat "$work/large.c")"
+echo "read, and one step:       $(milliseconds "$(least 3 "$top/crates/aplc/out/aplc" --exec --steps 1 "$work/large.c")")"
+echo "refused behind its tail:  $(milliseconds "$(least 3 "$top/crates/aplc/out/aplc" --exec --steps 1 "$work/more.c")")"
+echo "cat:                      $(milliseconds "$(least 3 cat "$work/large.c")")"

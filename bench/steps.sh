@@ -3,6 +3,7 @@
 # longer that is than the same text compiled by a C compiler at -O0.
 set -u
 top=$(cd "$(dirname "$(readlink -f "${BASH_SOURCE[0]}")")/.." && pwd)
+. "$top/bench/timing.sh"
 compiler=$(command -v cc || command -v gcc || command -v clang) || { echo "no C compiler is here" >&2; exit 1; }
 work=$(mktemp -d) || exit 1
 trap 'rm -rf "$work"' EXIT
@@ -14,17 +15,9 @@ printf '∇MAIN\n∇\n' >"$work/empty.apl"
     'while ((v0 < 5000000LL)) {' 'v0 = (v0 + 1LL);' '}' '}' 'int main(void) {' 'f0();' 'return 0;' '}'
 } >"$work/loop.c"
 "$compiler" -O0 -w -o "$work/loop" "$work/loop.c" || exit 1
-microseconds() { # the least of ten runs
-  best=
-  for _ in {1..10}; do
-    start=$(date +%s%N); "$@" >/dev/null </dev/null || exit 1; end=$(date +%s%N)
-    spent=$(((end - start) / 1000))
-    if [ -z "$best" ] || [ "$spent" -lt "$best" ]; then best=$spent; fi
-  done
-  echo "$best"
-}
-ours=$(microseconds "$top/crates/aplc/out/aplc" --exec "$work/loop.c") || exit 1
-theirs=$(microseconds "$work/loop") || exit 1
+"$top/crates/aplc/out/aplc" --exec "$work/loop.c" || exit 1
+ours=$(least 10 "$top/crates/aplc/out/aplc" --exec "$work/loop.c")
+theirs=$(least 10 "$work/loop")
 echo "aplc --exec: $ours µs, $((10000000 / (ours / 1000 + 1) / 1000)) million steps a second"
 echo "$compiler -O0: $theirs µs"
 echo "ratio: $((ours * 10 / theirs / 10)).$((ours * 10 / theirs % 10))"

@@ -2,6 +2,7 @@
 # Prints how long the built program takes for the largest source of sums, and how long cat takes for the same file.
 set -u
 top=$(cd "$(dirname "$(readlink -f "${BASH_SOURCE[0]}")")/.." && pwd)
+. "$top/bench/timing.sh"
 work=$(mktemp -d) || exit 1
 trap 'rm -rf "$work"' EXIT
 line=$(printf '%.0s7-' {1..127})7
@@ -11,18 +12,9 @@ line=$(printf '%.0s7-' {1..127})7
   printf '∇\n'
 } >"$work/sums.apl"
 "$top/aplc" "$work/sums.apl" >"$work/sums.c" || exit 1
-milliseconds() { # the least of ten runs
-  best=
-  for _ in {1..10}; do
-    start=$(date +%s%N); "$@" >/dev/null; end=$(date +%s%N)
-    spent=$(((end - start) / 1000))
-    if [ -z "$best" ] || [ "$spent" -lt "$best" ]; then best=$spent; fi
-  done
-  printf '%d.%03d ms' $((best / 1000)) $((best % 1000))
-}
 echo "source: $(wc -c <"$work/sums.apl") bytes, 999 lines of 128 numbers; text: $(wc -c <"$work/sums.c") bytes"
-echo "aplc: $(milliseconds "$top/crates/aplc/out/aplc" "$work/sums.apl")"
-echo "cat:  $(milliseconds cat "$work/sums.apl")"
+echo "aplc: $(milliseconds "$(least 10 "$top/crates/aplc/out/aplc" "$work/sums.apl")")"
+echo "cat:  $(milliseconds "$(least 10 cat "$work/sums.apl")")"
 if [ -x /usr/bin/time ]; then
   /usr/bin/time -f 'aplc: %M KiB of memory at most' "$top/crates/aplc/out/aplc" "$work/sums.apl" 2>&1 >/dev/null
 fi

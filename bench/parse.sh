@@ -1,6 +1,6 @@
 #!/usr/bin/env bash
-# Builds a small program over the readers of tokens and programs, outside the repository, and prints how long it takes
-# for sources of 262,144 bytes.
+# Builds a small program over the readers of tokens and programs, outside the repository, and prints how long it takes for
+# three sources: one of about the greatest size, one of many forms, one of many functions.
 set -u
 top=$(cd "$(dirname "$(readlink -f "${BASH_SOURCE[0]}")")/.." && pwd)
 . "$top/bench/timing.sh"
@@ -8,8 +8,12 @@ work=$(mktemp -d) || exit 1
 trap 'rm -rf "$work"' EXIT
 mkdir -p "$work/crates/parse/src" "$work/crates/parse/specs"
 cp "$top/HANDLES" "$work/"
-{ cat "$top/crates.txt"; echo 'parse: aplc_io aplc_lex aplc_syntax anyhow'; } >"$work/crates.txt"
-for crate in "$top"/crates/*/; do ln -s "$crate" "$work/crates/"; done
+: >"$work/crates.txt"
+for crate in aplc_scalar aplc_io aplc_lex aplc_syntax; do
+  cp -r "$top/crates/$crate" "$work/crates/"
+  grep "^$crate:" "$top/crates.txt" >>"$work/crates.txt"
+done
+echo 'parse: aplc_io aplc_lex aplc_syntax anyhow' >>"$work/crates.txt"
 cp "$top/bench/parse/main.rt" "$work/crates/parse/src/main.rt"
 touch "$work/crates/parse/specs/Lib.antt"
 (cd "$work/crates/parse" && rt run >"$work/log" 2>&1 </dev/null)

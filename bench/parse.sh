@@ -14,7 +14,7 @@ for crate in aplc_scalar aplc_io aplc_lex aplc_syntax; do
   grep "^$crate:" "$top/crates.txt" >>"$work/crates.txt"
 done
 echo 'parse: aplc_io aplc_lex aplc_syntax anyhow' >>"$work/crates.txt"
-cp "$top/bench/parse/main.rt" "$work/crates/parse/src/main.rt"
+cp "$top/bench/parse_main.txt" "$work/crates/parse/src/main.rt"
 touch "$work/crates/parse/specs/Lib.antt"
 (cd "$work/crates/parse" && rt run >"$work/log" 2>&1 </dev/null)
 program=$work/crates/parse/out/parse

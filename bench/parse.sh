@@ -1,6 +1,6 @@
 #!/usr/bin/env bash
 # Builds a small program over the readers of tokens and programs, outside the repository, and prints how long it takes for
-# three sources: one of about the greatest size, one of many forms, one of many functions.
+# three sources: one of the greatest size, one of many forms, one of many functions.
 set -u
 top=$(cd "$(dirname "$(readlink -f "${BASH_SOURCE[0]}")")/.." && pwd)
 . "$top/bench/timing.sh"
@@ -36,6 +36,8 @@ functions() { # many small functions
   done
 }
 lines "$(printf '%.0s7-' {1..127})7" 262144 >"$work/sums.apl"
+# a comment behind the last line makes it 262,144 bytes, the most that a source may have
+{ printf '⍝'; printf '%*s' $((262144 - 3 - $(wc -c <"$work/sums.apl"))) ''; } >>"$work/sums.apl"
 lines "$(printf '%.0s(' {1..31})A[1;2]←+/B∘.×⍉'it''s'$(printf '%.0s)' {1..31})" 262144 >"$work/forms.apl"
 functions >"$work/functions.apl"
 for name in sums forms functions; do

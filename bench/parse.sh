@@ -37,7 +37,7 @@ functions() { # many small functions
 }
 lines "$(printf '%.0s7-' {1..127})7" 262144 >"$work/sums.apl"
 # a comment behind the last line makes it 262,144 bytes, the most that a source may have
-{ printf '⍝'; printf '%*s' $((262144 - 3 - $(wc -c <"$work/sums.apl"))) ''; } >>"$work/sums.apl"
+{ printf '⍝'; printf '%*s' $((262144 - $(wc -c <"$work/sums.apl"))) ''; } >>"$work/sums.apl"
 lines "$(printf '%.0s(' {1..31})A[1;2]←+/B∘.×⍉'it''s'$(printf '%.0s)' {1..31})" 262144 >"$work/forms.apl"
 functions >"$work/functions.apl"
 for name in sums forms functions; do

@@ -15,6 +15,7 @@ use Rattle.aplc_cprof.specs.declared.syntax.StuckCause.TheVariants.{Outside, Ran
 use Rattle.aplc_cprof.specs.Machine.{Value, Is, Bad, Todo, Code, State, Caller, Next, value, is_zero, with_value, limit_or, set_int, set_buf, buf_or_null, named_buf, read_int, onward, printed, ranged, exact, text_width, padded_text, is_scalar, act, due, leave, step, run, settled, settled_next, and_then, cells_of, numbered, numbered_if, chosen, size, total, no_ints, no_bufs, held, put}
 use Rattle.aplc_cprof.specs.Machine as machine
 use Rattle.aplc_cprof.proofs.Values.{value_same}
+use Rattle.aplc_crun.specs.Terms.{expr_of}
 use Rattle.aplc_crun.specs.declared.code.Node.{Node}
 use Rattle.aplc_crun.specs.declared.code.Node.TheVariants as form
 use Rattle.aplc_crun.specs.declared.code.Entry.{Entry}
@@ -292,11 +293,11 @@ act_meets : (g : Globals) (s : Setting) (l : Layout) (nd : Node) (f : Flat) → 
 act_meets g s l form.Leave f fit here ok sound =
     along g s _ _ _ (leave_meets g s f.callers f sound.callers sound) (ap (λ t. due (code_for s.due l) t (state_of s f)) (sym ok))
 act_meets g s l (form.Set x e next) f fit here ok sound =
-    onward_meets g s l f.at (stmt.Set x e) _ next f _ ok.0 (stmt.outs-Set x e)
-    (value_meets g s e l.tables f _ _ sound (λ v. set_meets g s x v next f ok.0.falls ok.1 sound))
+    onward_meets g s l f.at (stmt.Set x (expr_of e)) _ next f _ ok.0 (stmt.outs-Set x (expr_of e))
+    (value_meets g s (expr_of e) l.tables f _ _ sound (λ v. set_meets g s x v next f ok.0.falls ok.1 sound))
 act_meets g s l (form.SetCell p e h next) f fit here ok sound =
-    onward_meets g s l f.at (stmt.SetCell p e h) _ next f _ ok (stmt.outs-SetCell p e h)
-    (value_meets g s e l.tables f _ _ sound (λ k. value_meets g s h l.tables f _ _ sound (λ v.
+    onward_meets g s l f.at (stmt.SetCell p (expr_of e) (expr_of h)) _ next f _ ok (stmt.outs-SetCell p (expr_of e) (expr_of h))
+    (value_meets g s (expr_of e) l.tables f _ _ sound (λ k. value_meets g s (expr_of h) l.tables f _ _ sound (λ v.
     along g s _ _ _ (write_meets g s (named_buf p (env f)) k v next f ok.falls sound)
     (ap (λ b. machine.write_cell b k v f.at (s.due next).todo (state_of s f)) (named_here s f p)))))
 act_meets g s l (form.SetBuf p q next) f fit here ok sound =
@@ -304,25 +305,25 @@ act_meets g s l (form.SetBuf p q next) f fit here ok sound =
     (along g s (go_to next (with_buf p (other_buf q f) f)) _ _ (buf_meets g s p (other_buf q f) next f ok.0.falls ok.1 sound)
     (ap (λ b. onward (s.due next).todo (set_buf p b (state_of s f))) (other_here s f q)))
 act_meets g s l (form.Cells p e next) f fit here ok sound =
-    onward_meets g s l f.at (stmt.Cells p e) _ next f _ ok.0 (stmt.outs-Cells p e)
-    (value_meets g s e l.tables f _ _ sound (λ k. cells_meets g s p k next f ok.0.falls ok.1 sound))
+    onward_meets g s l f.at (stmt.Cells p (expr_of e)) _ next f _ ok.0 (stmt.outs-Cells p (expr_of e))
+    (value_meets g s (expr_of e) l.tables f _ _ sound (λ k. cells_meets g s p k next f ok.0.falls ok.1 sound))
 act_meets g s l (form.Free p next) f fit here ok sound =
     onward_meets g s l f.at (stmt.Free p) _ next f _ ok (stmt.outs-Free p)
     (along g s _ _ _ (free_meets g s (named_buf p (env f)) next f ok.falls sound)
     (ap (λ b. machine.free_named b f.at (s.due next).todo (state_of s f)) (named_here s f p)))
 act_meets g s l (form.Check x o e h next) f fit here ok sound =
-    onward_meets g s l f.at (stmt.Check x o e h) _ next f _ ok.0 (stmt.outs-Check x o e h)
-    (value_meets g s e l.tables f _ _ sound (λ a. value_meets g s h l.tables f _ _ sound (λ b.
+    onward_meets g s l f.at (stmt.Check x o (expr_of e) (expr_of h)) _ next f _ ok.0 (stmt.outs-Check x o (expr_of e) (expr_of h))
+    (value_meets g s (expr_of e) l.tables f _ _ sound (λ a. value_meets g s (expr_of h) l.tables f _ _ sound (λ b.
     limit_meets g s (ranged (exact o a b)) f _ _ sound (λ v. set_meets g s x v next f ok.0.falls ok.1 sound))))
 act_meets g s l (form.Width x e next) f fit here ok sound =
-    onward_meets g s l f.at (stmt.Width x e) _ next f _ ok.0 (stmt.outs-Width x e)
-    (value_meets g s e l.tables f _ _ sound (λ v. set_meets g s x (pos (text_width v)) next f ok.0.falls ok.1 sound))
+    onward_meets g s l f.at (stmt.Width x (expr_of e)) _ next f _ ok.0 (stmt.outs-Width x (expr_of e))
+    (value_meets g s (expr_of e) l.tables f _ _ sound (λ v. set_meets g s x (pos (text_width v)) next f ok.0.falls ok.1 sound))
 act_meets g s l (form.PutNum e h next) f fit here ok sound =
-    onward_meets g s l f.at (stmt.PutNum e h) _ next f _ ok (stmt.outs-PutNum e h)
-    (value_meets g s e l.tables f _ _ sound (λ v. value_meets g s h l.tables f _ _ sound (λ w. number_meets g s v w next f ok.falls sound)))
+    onward_meets g s l f.at (stmt.PutNum (expr_of e) (expr_of h)) _ next f _ ok (stmt.outs-PutNum (expr_of e) (expr_of h))
+    (value_meets g s (expr_of e) l.tables f _ _ sound (λ v. value_meets g s (expr_of h) l.tables f _ _ sound (λ w. number_meets g s v w next f ok.falls sound)))
 act_meets g s l (form.PutChar e next) f fit here ok sound =
-    onward_meets g s l f.at (stmt.PutChar e) _ next f _ ok (stmt.outs-PutChar e)
-    (value_meets g s e l.tables f _ _ sound (λ v. character_meets g s v next f ok.falls sound))
+    onward_meets g s l f.at (stmt.PutChar (expr_of e)) _ next f _ ok (stmt.outs-PutChar (expr_of e))
+    (value_meets g s (expr_of e) l.tables f _ _ sound (λ v. character_meets g s v next f ok.falls sound))
 act_meets g s l (form.ReadText p next) f fit here ok sound = tt
 act_meets g s l (form.ReadNums p next) f fit here ok sound = tt
 act_meets g s l (form.ReadCount x next) f fit here ok sound =
@@ -353,13 +354,13 @@ act_meets g s l form.Return f fit here ok sound =
     (at_due (code_for s.due l) (s.due f.at).todo f.at stmt.Return _ ok.rest (state_of s f) ok.due stmt.outs-Return)
 act_meets g s l (form.If e met other) f fit here ok sound =
     along g s _ _ _
-    (value_meets g s e l.tables f _ _ sound (λ v. branch_meets g s met other f _ _ (is_zero v) ok.first ok.second ok.falls_first ok.falls_second sound))
-    (at_due (code_for s.due l) (s.due f.at).todo f.at (stmt.If e ok.inner ok.others) _ ok.rest (state_of s f) ok.due (stmt.outs-If e ok.inner ok.others))
+    (value_meets g s (expr_of e) l.tables f _ _ sound (λ v. branch_meets g s met other f _ _ (is_zero v) ok.first ok.second ok.falls_first ok.falls_second sound))
+    (at_due (code_for s.due l) (s.due f.at).todo f.at (stmt.If (expr_of e) ok.inner ok.others) _ ok.rest (state_of s f) ok.due (stmt.outs-If (expr_of e) ok.inner ok.others))
 act_meets g s l (form.While e body next) f fit here ok sound =
     along g s _ _ _
-    (value_meets g s e l.tables f _ _ sound (λ v. branch_meets g s body next f _ _ (is_zero v)
+    (value_meets g s (expr_of e) l.tables f _ _ sound (λ v. branch_meets g s body next f _ _ (is_zero v)
     (ok.turn ∙ ap (λ t. numbered (f.at + 1) ok.inner ++ t) ok.due) refl ok.falls_in ok.falls sound))
-    (at_due (code_for s.due l) (s.due f.at).todo f.at (stmt.While e ok.inner) _ (s.due next).todo (state_of s f) ok.due (stmt.outs-While e ok.inner))
+    (at_due (code_for s.due l) (s.due f.at).todo f.at (stmt.While (expr_of e) ok.inner) _ (s.due next).todo (state_of s f) ok.due (stmt.outs-While (expr_of e) ok.inner))
 act_meets g s l (form.Switch x choices other) f fit here ok sound =
     along g s _ _ _
     (along g s _ _ _

@@ -14,54 +14,66 @@ use Rattle.aplc_cprof.specs.declared.syntax.Arm.{Arm}
 use Rattle.aplc_cprof.specs.declared.syntax.CFunction.{CFunction}
 use Rattle.aplc_cprof.specs.Machine.{Todo, size, total, numbered, bodies_from}
 use Rattle.aplc_cprof.proofs.Values.{size_Set, size_SetCell, size_SetBuf, size_Cells, size_Free, size_Check, size_Width, size_PutNum, size_PutChar, size_ReadText, size_ReadNums, size_ReadCount, size_At, size_Fault, size_Call, size_Return}
+use Rattle.aplc_crun.specs.Terms.{expr_of, IsTerm}
+use Rattle.aplc_crun.specs.declared.term.Term.{Term}
 use Rattle.aplc_crun.specs.declared.code.Node.{Node}
 use Rattle.aplc_crun.specs.declared.code.Node.TheVariants as form
-use Rattle.aplc_crun.specs.declared.code.Choice.{Choice}
+use Rattle.aplc_crun.specs.declared.choices.Choice.{Choice}
 use Rattle.aplc_crun.specs.declared.code.Entry.{Entry}
 use Rattle.aplc_crun.specs.declared.lay.Room.{Room}
 use Rattle.aplc_crun.specs.Flat.{Layout}
 use Rattle.aplc_crun.specs.Laying.{Spot, Due, Globals, NodeOk, PartOk, AllFit, IsLaid}
-use Rattle.aplc_crun.specs.Building.{globals_of, IntInRoom, BufInRoom, spot, nowhere, Within, Agrees, entry, BlockOk, arm_size, choices_of, ArmsOk, LaidStmt, LaidBlock, LaidArms, LaidFunctions, sizes_of}
+use Rattle.aplc_crun.specs.Building.{globals_of, IntInRoom, BufInRoom, spot, nowhere, Within, Agrees, entry, BlockOk, arm_size, choices_of, ArmsOk, OpenedIf, OpenedWhile, LaidStmt, LaidBlock, LaidArms, LaidFunctions, sizes_of}
 use Rattle.aplc_crun.proofs.Parts.{agrees_first, agrees_second, part_append, onward_at, last_at, int_in, buf_in, stmt_leaf, stmt_while, stmt_if, stmt_else, stmt_switch, block_none, block_more, arms_none, arms_more}
 
 laid_leaf : (r : Room) (old new : List Node) (nd : Node) (x : CStmt) (next : ℕ) → new ≡ old ++ nd ∷ [] → size x ≡ 1 → ((k : Due) → Within r (k next) → k (length old) ≡ spot r ((length old, x) ∷ (k next).todo) → NodeOk (globals_of r) k (length old) nd) → LaidStmt r old new x next
 laid_leaf r old new nd x next h e g = record { added = nd ∷ []; new_is = h; ok = stmt_leaf r (length old) nd x next e g }
 
-pub laid_Set : (r : Room) (old new : List Node) (x : Int) (e : CExpr) (e2 : CExpr) (next : ℕ) → IntInRoom r x → e2 ≡ e → new ≡ old ++ form.Set x e2 next ∷ [] → LaidStmt r old new (stmt.Set x e) next
+pub laid_Set : (r : Room) (old new : List Node) (x : Int) (e : CExpr) (e2 : Term) (next : ℕ) → IntInRoom r x → IsTerm e e2 → new ≡ old ++ form.Set x e2 next ∷ [] → LaidStmt r old new (stmt.Set x e) next
 laid_Set r old new x e e2 next room is_e h =
-    laid_leaf r old new (form.Set x e next) (stmt.Set x e) next (h ∙ ap (λ y. old ++ form.Set x y next ∷ []) is_e) (size_Set x e) (λ k w e0. (onward_at r k (length old) (stmt.Set x e) next w e0, int_in r k (length old) ((length old, stmt.Set x e) ∷ (k next).todo) x e0 room))
+    subst (λ (y : CExpr). LaidStmt r old new (stmt.Set x y) next) is_e.same
+    (laid_leaf r old new (form.Set x e2 next) (stmt.Set x (expr_of e2)) next h (size_Set x (expr_of e2)) (λ k w e0. (onward_at r k (length old) (stmt.Set x (expr_of e2)) next w e0, int_in r k (length old) ((length old, stmt.Set x (expr_of e2)) ∷ (k next).todo) x e0 room)))
 
-pub laid_SetCell : (r : Room) (old new : List Node) (p : Buf) (e : CExpr) (f : CExpr) (e2 : CExpr) (f2 : CExpr) (next : ℕ) → e2 ≡ e → f2 ≡ f → new ≡ old ++ form.SetCell p e2 f2 next ∷ [] → LaidStmt r old new (stmt.SetCell p e f) next
+pub laid_SetCell : (r : Room) (old new : List Node) (p : Buf) (e : CExpr) (f : CExpr) (e2 : Term) (f2 : Term) (next : ℕ) → IsTerm e e2 → IsTerm f f2 → new ≡ old ++ form.SetCell p e2 f2 next ∷ [] → LaidStmt r old new (stmt.SetCell p e f) next
 laid_SetCell r old new p e f e2 f2 next is_e is_f h =
-    laid_leaf r old new (form.SetCell p e f next) (stmt.SetCell p e f) next (h ∙ ap (λ y. old ++ form.SetCell p y f2 next ∷ []) is_e ∙ ap (λ y. old ++ form.SetCell p e y next ∷ []) is_f) (size_SetCell p e f) (λ k w e0. onward_at r k (length old) (stmt.SetCell p e f) next w e0)
+    subst (λ (y : CExpr). LaidStmt r old new (stmt.SetCell p e y) next) is_f.same
+    (subst (λ (y : CExpr). LaidStmt r old new (stmt.SetCell p y (expr_of f2)) next) is_e.same
+    (laid_leaf r old new (form.SetCell p e2 f2 next) (stmt.SetCell p (expr_of e2) (expr_of f2)) next h (size_SetCell p (expr_of e2) (expr_of f2)) (λ k w e0. onward_at r k (length old) (stmt.SetCell p (expr_of e2) (expr_of f2)) next w e0)))
 
 pub laid_SetBuf : (r : Room) (old new : List Node) (p : Buf) (q : Option Buf) (next : ℕ) → BufInRoom r p → new ≡ old ++ form.SetBuf p q next ∷ [] → LaidStmt r old new (stmt.SetBuf p q) next
 laid_SetBuf r old new p q next room h =
     laid_leaf r old new (form.SetBuf p q next) (stmt.SetBuf p q) next (h) (size_SetBuf p q) (λ k w e0. (onward_at r k (length old) (stmt.SetBuf p q) next w e0, buf_in r k (length old) ((length old, stmt.SetBuf p q) ∷ (k next).todo) p e0 room))
 
-pub laid_Cells : (r : Room) (old new : List Node) (p : Buf) (e : CExpr) (e2 : CExpr) (next : ℕ) → BufInRoom r p → e2 ≡ e → new ≡ old ++ form.Cells p e2 next ∷ [] → LaidStmt r old new (stmt.Cells p e) next
+pub laid_Cells : (r : Room) (old new : List Node) (p : Buf) (e : CExpr) (e2 : Term) (next : ℕ) → BufInRoom r p → IsTerm e e2 → new ≡ old ++ form.Cells p e2 next ∷ [] → LaidStmt r old new (stmt.Cells p e) next
 laid_Cells r old new p e e2 next room is_e h =
-    laid_leaf r old new (form.Cells p e next) (stmt.Cells p e) next (h ∙ ap (λ y. old ++ form.Cells p y next ∷ []) is_e) (size_Cells p e) (λ k w e0. (onward_at r k (length old) (stmt.Cells p e) next w e0, buf_in r k (length old) ((length old, stmt.Cells p e) ∷ (k next).todo) p e0 room))
+    subst (λ (y : CExpr). LaidStmt r old new (stmt.Cells p y) next) is_e.same
+    (laid_leaf r old new (form.Cells p e2 next) (stmt.Cells p (expr_of e2)) next h (size_Cells p (expr_of e2)) (λ k w e0. (onward_at r k (length old) (stmt.Cells p (expr_of e2)) next w e0, buf_in r k (length old) ((length old, stmt.Cells p (expr_of e2)) ∷ (k next).todo) p e0 room)))
 
 pub laid_Free : (r : Room) (old new : List Node) (p : Buf) (next : ℕ) → new ≡ old ++ form.Free p next ∷ [] → LaidStmt r old new (stmt.Free p) next
 laid_Free r old new p next h =
     laid_leaf r old new (form.Free p next) (stmt.Free p) next (h) (size_Free p) (λ k w e0. onward_at r k (length old) (stmt.Free p) next w e0)
 
-pub laid_Check : (r : Room) (old new : List Node) (x : Int) (o : Checked) (e : CExpr) (f : CExpr) (e2 : CExpr) (f2 : CExpr) (next : ℕ) → IntInRoom r x → e2 ≡ e → f2 ≡ f → new ≡ old ++ form.Check x o e2 f2 next ∷ [] → LaidStmt r old new (stmt.Check x o e f) next
+pub laid_Check : (r : Room) (old new : List Node) (x : Int) (o : Checked) (e : CExpr) (f : CExpr) (e2 : Term) (f2 : Term) (next : ℕ) → IntInRoom r x → IsTerm e e2 → IsTerm f f2 → new ≡ old ++ form.Check x o e2 f2 next ∷ [] → LaidStmt r old new (stmt.Check x o e f) next
 laid_Check r old new x o e f e2 f2 next room is_e is_f h =
-    laid_leaf r old new (form.Check x o e f next) (stmt.Check x o e f) next (h ∙ ap (λ y. old ++ form.Check x o y f2 next ∷ []) is_e ∙ ap (λ y. old ++ form.Check x o e y next ∷ []) is_f) (size_Check x o e f) (λ k w e0. (onward_at r k (length old) (stmt.Check x o e f) next w e0, int_in r k (length old) ((length old, stmt.Check x o e f) ∷ (k next).todo) x e0 room))
+    subst (λ (y : CExpr). LaidStmt r old new (stmt.Check x o e y) next) is_f.same
+    (subst (λ (y : CExpr). LaidStmt r old new (stmt.Check x o y (expr_of f2)) next) is_e.same
+    (laid_leaf r old new (form.Check x o e2 f2 next) (stmt.Check x o (expr_of e2) (expr_of f2)) next h (size_Check x o (expr_of e2) (expr_of f2)) (λ k w e0. (onward_at r k (length old) (stmt.Check x o (expr_of e2) (expr_of f2)) next w e0, int_in r k (length old) ((length old, stmt.Check x o (expr_of e2) (expr_of f2)) ∷ (k next).todo) x e0 room))))
 
-pub laid_Width : (r : Room) (old new : List Node) (x : Int) (e : CExpr) (e2 : CExpr) (next : ℕ) → IntInRoom r x → e2 ≡ e → new ≡ old ++ form.Width x e2 next ∷ [] → LaidStmt r old new (stmt.Width x e) next
+pub laid_Width : (r : Room) (old new : List Node) (x : Int) (e : CExpr) (e2 : Term) (next : ℕ) → IntInRoom r x → IsTerm e e2 → new ≡ old ++ form.Width x e2 next ∷ [] → LaidStmt r old new (stmt.Width x e) next
 laid_Width r old new x e e2 next room is_e h =
-    laid_leaf r old new (form.Width x e next) (stmt.Width x e) next (h ∙ ap (λ y. old ++ form.Width x y next ∷ []) is_e) (size_Width x e) (λ k w e0. (onward_at r k (length old) (stmt.Width x e) next w e0, int_in r k (length old) ((length old, stmt.Width x e) ∷ (k next).todo) x e0 room))
+    subst (λ (y : CExpr). LaidStmt r old new (stmt.Width x y) next) is_e.same
+    (laid_leaf r old new (form.Width x e2 next) (stmt.Width x (expr_of e2)) next h (size_Width x (expr_of e2)) (λ k w e0. (onward_at r k (length old) (stmt.Width x (expr_of e2)) next w e0, int_in r k (length old) ((length old, stmt.Width x (expr_of e2)) ∷ (k next).todo) x e0 room)))
 
-pub laid_PutNum : (r : Room) (old new : List Node) (e : CExpr) (f : CExpr) (e2 : CExpr) (f2 : CExpr) (next : ℕ) → e2 ≡ e → f2 ≡ f → new ≡ old ++ form.PutNum e2 f2 next ∷ [] → LaidStmt r old new (stmt.PutNum e f) next
+pub laid_PutNum : (r : Room) (old new : List Node) (e : CExpr) (f : CExpr) (e2 : Term) (f2 : Term) (next : ℕ) → IsTerm e e2 → IsTerm f f2 → new ≡ old ++ form.PutNum e2 f2 next ∷ [] → LaidStmt r old new (stmt.PutNum e f) next
 laid_PutNum r old new e f e2 f2 next is_e is_f h =
-    laid_leaf r old new (form.PutNum e f next) (stmt.PutNum e f) next (h ∙ ap (λ y. old ++ form.PutNum y f2 next ∷ []) is_e ∙ ap (λ y. old ++ form.PutNum e y next ∷ []) is_f) (size_PutNum e f) (λ k w e0. onward_at r k (length old) (stmt.PutNum e f) next w e0)
+    subst (λ (y : CExpr). LaidStmt r old new (stmt.PutNum e y) next) is_f.same
+    (subst (λ (y : CExpr). LaidStmt r old new (stmt.PutNum y (expr_of f2)) next) is_e.same
+    (laid_leaf r old new (form.PutNum e2 f2 next) (stmt.PutNum (expr_of e2) (expr_of f2)) next h (size_PutNum (expr_of e2) (expr_of f2)) (λ k w e0. onward_at r k (length old) (stmt.PutNum (expr_of e2) (expr_of f2)) next w e0)))
 
-pub laid_PutChar : (r : Room) (old new : List Node) (e : CExpr) (e2 : CExpr) (next : ℕ) → e2 ≡ e → new ≡ old ++ form.PutChar e2 next ∷ [] → LaidStmt r old new (stmt.PutChar e) next
+pub laid_PutChar : (r : Room) (old new : List Node) (e : CExpr) (e2 : Term) (next : ℕ) → IsTerm e e2 → new ≡ old ++ form.PutChar e2 next ∷ [] → LaidStmt r old new (stmt.PutChar e) next
 laid_PutChar r old new e e2 next is_e h =
-    laid_leaf r old new (form.PutChar e next) (stmt.PutChar e) next (h ∙ ap (λ y. old ++ form.PutChar y next ∷ []) is_e) (size_PutChar e) (λ k w e0. onward_at r k (length old) (stmt.PutChar e) next w e0)
+    subst (λ (y : CExpr). LaidStmt r old new (stmt.PutChar y) next) is_e.same
+    (laid_leaf r old new (form.PutChar e2 next) (stmt.PutChar (expr_of e2)) next h (size_PutChar (expr_of e2)) (λ k w e0. onward_at r k (length old) (stmt.PutChar (expr_of e2)) next w e0))
 
 pub laid_ReadText : (r : Room) (old new : List Node) (p : Buf) (next : ℕ) → BufInRoom r p → new ≡ old ++ form.ReadText p next ∷ [] → LaidStmt r old new (stmt.ReadText p) next
 laid_ReadText r old new p next room h =
@@ -102,38 +114,61 @@ block_at r old mid new nd a next m h e b =
 grown : (old mid new added : List Node) (nd : Node) → mid ≡ old ++ nd ∷ [] → new ≡ mid ++ added → new ≡ old ++ (nd ∷ added)
 grown old mid new added nd h g = g ∙ ap (λ xs. xs ++ added) h ∙ append_assoc old (nd ∷ []) added
 
-pub laid_while : (r : Room) (old mid new : List Node) (e : CExpr) (a : List CStmt) (at start body next : ℕ) → at ≡ length old → start ≡ at + 1 → body ≡ entry a start at → mid ≡ old ++ form.While e body next ∷ [] → LaidBlock r mid new a at → LaidStmt r old new (stmt.While e a) next
-laid_while r old mid new e a at start body next is_at is_start is_body h b =
-    let is : body ≡ entry a (length old + 1) (length old) = is_body ∙ ap (λ n. entry a n at) is_start ∙ ap (λ n. entry a (n + 1) n) is_at in
-    let h2 : mid ≡ old ++ form.While e (entry a (length old + 1) (length old)) next ∷ [] = h ∙ ap (λ n. old ++ form.While e n next ∷ []) is in
-    let b2 : LaidBlock r mid new a (length old) = subst (λ (n : ℕ). LaidBlock r mid new a n) is_at b in
-    record {
-      added = form.While e (entry a (length old + 1) (length old)) next ∷ b2.added;
-      new_is = grown old mid new b2.added _ h2 b2.new_is;
-      ok = stmt_while r (length old) e a b2.added next (block_at r old mid new _ a (length old) (length old + 1) h2 refl b2);
-    }
-
-pub laid_if : (r : Room) (old mid new : List Node) (e : CExpr) (a : List CStmt) (at start met next : ℕ) → at ≡ length old → start ≡ at + 1 → met ≡ entry a start next → mid ≡ old ++ form.If e met next ∷ [] → LaidBlock r mid new a next → LaidStmt r old new (stmt.If e a None) next
-laid_if r old mid new e a at start met next is_at is_start is_met h b =
+pub opened_if : (old new : List Node) (e : CExpr) (t : Term) (a : List CStmt) (at start met next : ℕ) → IsTerm e t → at ≡ length old → start ≡ at + 1 → met ≡ entry a start next → new ≡ old ++ form.If t met next ∷ [] → OpenedIf old new e (entry a (length old + 1) next) next
+opened_if old new e t a at start met next is_t is_at is_start is_met h =
     let is : met ≡ entry a (length old + 1) next = is_met ∙ ap (λ n. entry a n next) is_start ∙ ap (λ n. entry a (n + 1) next) is_at in
-    let h2 : mid ≡ old ++ form.If e (entry a (length old + 1) next) next ∷ [] = h ∙ ap (λ n. old ++ form.If e n next ∷ []) is in
-    record {
-      added = form.If e (entry a (length old + 1) next) next ∷ b.added;
-      new_is = grown old mid new b.added _ h2 b.new_is;
-      ok = stmt_if r (length old) e a b.added next (block_at r old mid new _ a next (length old + 1) h2 refl b);
-    }
+    record { term = t; same = is_t; new_is = h ∙ ap (λ n. old ++ form.If t n next ∷ []) is }
 
-pub laid_else : (r : Room) (old mid half new : List Node) (e : CExpr) (a o : List CStmt) (at start middle met other next : ℕ) → at ≡ length old → start ≡ at + 1 → middle ≡ start + total (map size a) → met ≡ entry a start next → other ≡ entry o middle next → mid ≡ old ++ form.If e met other ∷ [] → LaidBlock r mid half a next → LaidBlock r half new o next → LaidStmt r old new (stmt.If e a (Some o)) next
-laid_else r old mid half new e a o at start middle met other next is_at is_start is_middle is_met is_other h b c =
+pub opened_else : (old new : List Node) (e : CExpr) (t : Term) (a o : List CStmt) (at start middle met other next : ℕ) → IsTerm e t → at ≡ length old → start ≡ at + 1 → middle ≡ start + total (map size a) → met ≡ entry a start next → other ≡ entry o middle next → new ≡ old ++ form.If t met other ∷ [] → OpenedIf old new e (entry a (length old + 1) next) (entry o (length old + 1 + total (map size a)) next)
+opened_else old new e t a o at start middle met other next is_t is_at is_start is_middle is_met is_other h =
     let is : met ≡ entry a (length old + 1) next = is_met ∙ ap (λ n. entry a n next) is_start ∙ ap (λ n. entry a (n + 1) next) is_at in
-    let h2 : mid ≡ old ++ form.If e (entry a (length old + 1) next) (entry o middle next) ∷ [] = h ∙ ap (λ n. old ++ form.If e n other ∷ []) is ∙ ap (λ n. old ++ form.If e (entry a (length old + 1) next) n ∷ []) is_other in
     let place : middle ≡ length old + 1 + total (map size a) = omega arith in
-    let long : length half ≡ middle =
-    ap length b.new_is ∙ length-append mid b.added ∙ (let f = ap length h2 ∙ length-append old (form.If e (entry a (length old + 1) next) (entry o middle next) ∷ []) in let g = b.ok.size_is in omega arith) in
+    let there : other ≡ entry o (length old + 1 + total (map size a)) next = is_other ∙ ap (λ n. entry o n next) place in
+    record { term = t; same = is_t; new_is = h ∙ ap (λ n. old ++ form.If t n other ∷ []) is ∙ ap (λ n. old ++ form.If t (entry a (length old + 1) next) n ∷ []) there }
+
+pub opened_while : (old new : List Node) (e : CExpr) (t : Term) (a : List CStmt) (at start body next : ℕ) → IsTerm e t → at ≡ length old → start ≡ at + 1 → body ≡ entry a start at → new ≡ old ++ form.While t body next ∷ [] → OpenedWhile old new e (entry a (length old + 1) (length old)) next
+opened_while old new e t a at start body next is_t is_at is_start is_body h =
+    let is : body ≡ entry a (length old + 1) (length old) = is_body ∙ ap (λ n. entry a n at) is_start ∙ ap (λ n. entry a (n + 1) n) is_at in
+    record { term = t; same = is_t; new_is = h ∙ ap (λ n. old ++ form.While t n next ∷ []) is }
+
+pub opened_switch : (old new : List Node) (x : Int) (arms : List Arm) (d : List CStmt) (choices : List Choice) (at start middle other next : ℕ) → at ≡ length old → start ≡ at + 1 → choices ≡ choices_of start arms next → middle ≡ start + total (map arm_size arms) → other ≡ entry d middle next → new ≡ old ++ form.Switch x choices other ∷ [] → new ≡ old ++ form.Switch x (choices_of (length old + 1) arms next) (entry d (length old + 1 + total (map arm_size arms)) next) ∷ []
+opened_switch old new x arms d choices at start middle other next is_at is_start is_choices is_middle is_other h =
+    let is : choices ≡ choices_of (length old + 1) arms next = is_choices ∙ ap (λ n. choices_of n arms next) is_start ∙ ap (λ n. choices_of (n + 1) arms next) is_at in
+    let place : middle ≡ length old + 1 + total (map arm_size arms) = omega arith in
+    let there : other ≡ entry d (length old + 1 + total (map arm_size arms)) next = is_other ∙ ap (λ n. entry d n next) place in
+    h ∙ ap (λ cs. old ++ form.Switch x cs other ∷ []) is ∙ ap (λ n. old ++ form.Switch x (choices_of (length old + 1) arms next) n ∷ []) there
+
+pub ruleset opens = (opened_if, opened_else, opened_while, opened_switch)
+
+pub laid_while : (r : Room) (old mid new : List Node) (e : CExpr) (a : List CStmt) (at next : ℕ) → at ≡ length old → OpenedWhile old mid e (entry a (length old + 1) (length old)) next → LaidBlock r mid new a at → LaidStmt r old new (stmt.While e a) next
+laid_while r old mid new e a at next is_at o b =
+    let b2 : LaidBlock r mid new a (length old) = subst (λ (n : ℕ). LaidBlock r mid new a n) is_at b in
+    subst (λ (y : CExpr). LaidStmt r old new (stmt.While y a) next) o.same.same
     record {
-      added = form.If e (entry a (length old + 1) next) (entry o middle next) ∷ (b.added ++ c.added);
-      new_is = c.new_is ∙ ap (λ xs. xs ++ c.added) (grown old mid half b.added _ h2 b.new_is) ∙ append_assoc old (form.If e (entry a (length old + 1) next) (entry o middle next) ∷ b.added) c.added;
-      ok = stmt_else r (length old) middle e a o b.added c.added next place (block_at r old mid half _ a next (length old + 1) h2 refl b) (subst (λ (n : ℕ). BlockOk r n c.added o next) long c.ok);
+      added = form.While o.term (entry a (length old + 1) (length old)) next ∷ b2.added;
+      new_is = grown old mid new b2.added _ o.new_is b2.new_is;
+      ok = stmt_while r (length old) o.term a b2.added next (block_at r old mid new _ a (length old) (length old + 1) o.new_is refl b2);
+    }
+
+pub laid_if : (r : Room) (old mid new : List Node) (e : CExpr) (a : List CStmt) (next : ℕ) → OpenedIf old mid e (entry a (length old + 1) next) next → LaidBlock r mid new a next → LaidStmt r old new (stmt.If e a None) next
+laid_if r old mid new e a next o b =
+    subst (λ (y : CExpr). LaidStmt r old new (stmt.If y a None) next) o.same.same
+    record {
+      added = form.If o.term (entry a (length old + 1) next) next ∷ b.added;
+      new_is = grown old mid new b.added _ o.new_is b.new_is;
+      ok = stmt_if r (length old) o.term a b.added next (block_at r old mid new _ a next (length old + 1) o.new_is refl b);
+    }
+
+pub laid_else : (r : Room) (old mid half new : List Node) (e : CExpr) (a o : List CStmt) (next : ℕ) → OpenedIf old mid e (entry a (length old + 1) next) (entry o (length old + 1 + total (map size a)) next) → LaidBlock r mid half a next → LaidBlock r half new o next → LaidStmt r old new (stmt.If e a (Some o)) next
+laid_else r old mid half new e a o next p b c =
+    let middle = length old + 1 + total (map size a) in
+    let long : length half ≡ middle =
+    ap length b.new_is ∙ length-append mid b.added ∙ (let f = ap length p.new_is ∙ length-append old (form.If p.term (entry a (length old + 1) next) (entry o middle next) ∷ []) in let g = b.ok.size_is in omega arith) in
+    subst (λ (y : CExpr). LaidStmt r old new (stmt.If y a (Some o)) next) p.same.same
+    record {
+      added = form.If p.term (entry a (length old + 1) next) (entry o middle next) ∷ (b.added ++ c.added);
+      new_is = c.new_is ∙ ap (λ xs. xs ++ c.added) (grown old mid half b.added _ p.new_is b.new_is) ∙ append_assoc old (form.If p.term (entry a (length old + 1) next) (entry o middle next) ∷ b.added) c.added;
+      ok = stmt_else r (length old) middle p.term a o b.added c.added next refl (block_at r old mid half _ a next (length old + 1) p.new_is refl b) (subst (λ (n : ℕ). BlockOk r n c.added o next) long c.ok);
     }
 
 -- arms that stand behind one place more
@@ -142,17 +177,15 @@ arms_at r old mid new nd arms next m h e b =
     let f : length mid ≡ m = ap length h ∙ length-append old (nd ∷ []) ∙ sym e in
     subst (λ (n : ℕ). ArmsOk r n b.added arms next) f b.ok
 
-pub laid_switch : (r : Room) (old mid half new : List Node) (x : Int) (arms : List Arm) (d : List CStmt) (choices : List Choice) (at start middle other next : ℕ) → at ≡ length old → start ≡ at + 1 → choices ≡ choices_of start arms next → middle ≡ start + total (map arm_size arms) → other ≡ entry d middle next → mid ≡ old ++ form.Switch x choices other ∷ [] → LaidArms r mid half arms next → LaidBlock r half new d next → LaidStmt r old new (stmt.Switch x arms d) next
-laid_switch r old mid half new x arms d choices at start middle other next is_at is_start is_choices is_middle is_other h b c =
-    let is : choices ≡ choices_of (length old + 1) arms next = is_choices ∙ ap (λ n. choices_of n arms next) is_start ∙ ap (λ n. choices_of (n + 1) arms next) is_at in
-    let h2 : mid ≡ old ++ form.Switch x (choices_of (length old + 1) arms next) (entry d middle next) ∷ [] = h ∙ ap (λ cs. old ++ form.Switch x cs other ∷ []) is ∙ ap (λ n. old ++ form.Switch x (choices_of (length old + 1) arms next) n ∷ []) is_other in
-    let place : middle ≡ length old + 1 + total (map arm_size arms) = omega arith in
+pub laid_switch : (r : Room) (old mid half new : List Node) (x : Int) (arms : List Arm) (d : List CStmt) (next : ℕ) → mid ≡ old ++ form.Switch x (choices_of (length old + 1) arms next) (entry d (length old + 1 + total (map arm_size arms)) next) ∷ [] → LaidArms r mid half arms next → LaidBlock r half new d next → LaidStmt r old new (stmt.Switch x arms d) next
+laid_switch r old mid half new x arms d next h b c =
+    let middle = length old + 1 + total (map arm_size arms) in
     let long : length half ≡ middle =
-    ap length b.new_is ∙ length-append mid b.added ∙ (let f = ap length h2 ∙ length-append old (form.Switch x (choices_of (length old + 1) arms next) (entry d middle next) ∷ []) in let g = b.ok.size_is in omega arith) in
+    ap length b.new_is ∙ length-append mid b.added ∙ (let f = ap length h ∙ length-append old (form.Switch x (choices_of (length old + 1) arms next) (entry d middle next) ∷ []) in let g = b.ok.size_is in omega arith) in
     record {
       added = form.Switch x (choices_of (length old + 1) arms next) (entry d middle next) ∷ (b.added ++ c.added);
-      new_is = c.new_is ∙ ap (λ xs. xs ++ c.added) (grown old mid half b.added _ h2 b.new_is) ∙ append_assoc old (form.Switch x (choices_of (length old + 1) arms next) (entry d middle next) ∷ b.added) c.added;
-      ok = stmt_switch r (length old) middle x arms d b.added c.added next place (arms_at r old mid half _ arms next (length old + 1) h2 refl b) (subst (λ (n : ℕ). BlockOk r n c.added d next) long c.ok);
+      new_is = c.new_is ∙ ap (λ xs. xs ++ c.added) (grown old mid half b.added _ h b.new_is) ∙ append_assoc old (form.Switch x (choices_of (length old + 1) arms next) (entry d middle next) ∷ b.added) c.added;
+      ok = stmt_switch r (length old) middle x arms d b.added c.added next refl (arms_at r old mid half _ arms next (length old + 1) h refl b) (subst (λ (n : ℕ). BlockOk r n c.added d next) long c.ok);
     }
 
 -- ---- Blocks and arms, one after the other
@@ -200,7 +233,7 @@ laid_arms_next r old mid new arms i next a body b q is_body is_a within =
     } in
     subst (λ (ys : List Arm). LaidArms r old new ys next) more all
 
-pub ruleset lays = (laid_empty, laid_Free, laid_Call, laid_Fault, laid_Return, laid_while, laid_if, laid_else, laid_switch, laid_none, laid_next, laid_last, laid_arms_none, laid_arms_next)
+pub ruleset lays = (laid_empty, laid_Fault, laid_Return, laid_while, laid_if, laid_else, laid_switch, laid_none, laid_next, laid_last, laid_arms_none, laid_arms_next)
 
 -- ---- Functions
 

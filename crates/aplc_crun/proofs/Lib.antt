@@ -5,8 +5,10 @@ mod Follow
 mod Frames
 mod Gathering
 mod Laid
+mod Moves
 mod Numbers
 mod Parts
+mod Picks
 mod ReadSteps
 mod RunsOn
 mod Standing

@@ -6,15 +6,16 @@ use Rattle.aplc_cprof.specs.declared.syntax.Int.{Int}
 use Rattle.aplc_cprof.specs.declared.syntax.Int.TheVariants as int
 use Rattle.aplc_cprof.specs.declared.syntax.Buf.{Buf}
 use Rattle.aplc_cprof.specs.declared.syntax.Buf.TheVariants as buf
-use Rattle.aplc_cprof.specs.declared.syntax.CExpr.{CExpr}
 use Rattle.aplc_cprof.specs.declared.syntax.CStmt.{CStmt}
 use Rattle.aplc_cprof.specs.declared.syntax.CStmt.TheVariants as stmt
 use Rattle.aplc_cprof.specs.declared.syntax.Arm.{Arm}
 use Rattle.aplc_cprof.specs.Machine.{Todo, size, total, numbered, chosen}
 use Rattle.aplc_cprof.proofs.Values.{size_If, size_While, size_Switch}
+use Rattle.aplc_crun.specs.Terms.{expr_of}
+use Rattle.aplc_crun.specs.declared.term.Term.{Term}
 use Rattle.aplc_crun.specs.declared.code.Node.{Node}
 use Rattle.aplc_crun.specs.declared.code.Node.TheVariants as form
-use Rattle.aplc_crun.specs.declared.code.Choice.{Choice}
+use Rattle.aplc_crun.specs.declared.choices.Choice.{Choice}
 use Rattle.aplc_crun.specs.declared.lay.Room.{Room}
 use Rattle.aplc_crun.specs.Flat.{picked}
 use Rattle.aplc_crun.specs.Laying.{Spot, Due, Globals, Falls, IntIn, BufIn, OnwardAt, LastAt, NodeOk, PartOk}
@@ -127,76 +128,76 @@ begins k at m ts us e f h = let q : suc at ≡ m = omega arith in subst (λ (n :
 behind : (g : Globals) (k : Due) (at m : ℕ) (a : List Node) → m ≡ at + 1 → PartOk g k m a → PartOk g k (suc at) a
 behind g k at m a e h = let q : m ≡ suc at = omega arith in subst (λ (n : ℕ). PartOk g k n a) q h
 
-pub stmt_while : (r : Room) (at : ℕ) (e : CExpr) (a : List CStmt) (added : List Node) (next : ℕ) → BlockOk r (at + 1) added a at → StmtOk r at (form.While e (entry a (at + 1) at) next ∷ added) (stmt.While e a) next
+pub stmt_while : (r : Room) (at : ℕ) (e : Term) (a : List CStmt) (added : List Node) (next : ℕ) → BlockOk r (at + 1) added a at → StmtOk r at (form.While e (entry a (at + 1) at) next ∷ added) (stmt.While (expr_of e) a) next
 stmt_while r at e a added next b = record {
-  size_is = let f = b.size_is in let g = size_While e a in omega arith;
-  dues = λ rest. spot r ((at, stmt.While e a) ∷ rest) ∷ b.dues ((at, stmt.While e a) ∷ rest);
-  lengths = λ rest. ap suc (b.lengths ((at, stmt.While e a) ∷ rest));
+  size_is = let f = b.size_is in let g = size_While (expr_of e) a in omega arith;
+  dues = λ rest. spot r ((at, stmt.While (expr_of e) a) ∷ rest) ∷ b.dues ((at, stmt.While (expr_of e) a) ∷ rest);
+  lengths = λ rest. ap suc (b.lengths ((at, stmt.While (expr_of e) a) ∷ rest));
   nodes = λ k w h. (
     record {
       inner = a;
-      due = todo_is r k at ((at, stmt.While e a) ∷ (k next).todo) h.0;
+      due = todo_is r k at ((at, stmt.While (expr_of e) a) ∷ (k next).todo) h.0;
       turn = b.due k (body k h);
-      falls = falls_to r k at next ((at, stmt.While e a) ∷ (k next).todo) h.0 w;
-      falls_in = falls_to r k at (entry a (at + 1) at) ((at, stmt.While e a) ∷ (k next).todo) h.0 (b.inside k (here k h) (body k h));
+      falls = falls_to r k at next ((at, stmt.While (expr_of e) a) ∷ (k next).todo) h.0 w;
+      falls_in = falls_to r k at (entry a (at + 1) at) ((at, stmt.While (expr_of e) a) ∷ (k next).todo) h.0 (b.inside k (here k h) (body k h));
     },
     behind (globals_of r) k at (at + 1) added refl (b.nodes k (here k h) (body k h)),
   );
   due = λ k h. h.0;
 }
   where
-    here : (k : Due) → Agrees k at (spot r ((at, stmt.While e a) ∷ (k next).todo) ∷ b.dues ((at, stmt.While e a) ∷ (k next).todo)) → Within r (k at)
-    here k h = within_spot r k at ((at, stmt.While e a) ∷ (k next).todo) h.0
+    here : (k : Due) → Agrees k at (spot r ((at, stmt.While (expr_of e) a) ∷ (k next).todo) ∷ b.dues ((at, stmt.While (expr_of e) a) ∷ (k next).todo)) → Within r (k at)
+    here k h = within_spot r k at ((at, stmt.While (expr_of e) a) ∷ (k next).todo) h.0
 
-    body : (k : Due) → Agrees k at (spot r ((at, stmt.While e a) ∷ (k next).todo) ∷ b.dues ((at, stmt.While e a) ∷ (k next).todo)) → Agrees k (at + 1) (b.dues (k at).todo)
-    body k h = begins k at (at + 1) _ _ refl (ap b.dues (sym (todo_is r k at ((at, stmt.While e a) ∷ (k next).todo) h.0))) h.1
+    body : (k : Due) → Agrees k at (spot r ((at, stmt.While (expr_of e) a) ∷ (k next).todo) ∷ b.dues ((at, stmt.While (expr_of e) a) ∷ (k next).todo)) → Agrees k (at + 1) (b.dues (k at).todo)
+    body k h = begins k at (at + 1) _ _ refl (ap b.dues (sym (todo_is r k at ((at, stmt.While (expr_of e) a) ∷ (k next).todo) h.0))) h.1
 
-pub stmt_if : (r : Room) (at : ℕ) (e : CExpr) (a : List CStmt) (added : List Node) (next : ℕ) → BlockOk r (at + 1) added a next → StmtOk r at (form.If e (entry a (at + 1) next) next ∷ added) (stmt.If e a None) next
+pub stmt_if : (r : Room) (at : ℕ) (e : Term) (a : List CStmt) (added : List Node) (next : ℕ) → BlockOk r (at + 1) added a next → StmtOk r at (form.If e (entry a (at + 1) next) next ∷ added) (stmt.If (expr_of e) a None) next
 stmt_if r at e a added next b = record {
-  size_is = let f = b.size_is in let g : size (stmt.If e a None) ≡ 1 + total (map size a) + 0 = size_If e a None in omega arith;
-  dues = λ rest. spot r ((at, stmt.If e a None) ∷ rest) ∷ b.dues rest;
+  size_is = let f = b.size_is in let g : size (stmt.If (expr_of e) a None) ≡ 1 + total (map size a) + 0 = size_If (expr_of e) a None in omega arith;
+  dues = λ rest. spot r ((at, stmt.If (expr_of e) a None) ∷ rest) ∷ b.dues rest;
   lengths = λ rest. ap suc (b.lengths rest);
   nodes = λ k w h. (
     record {
       inner = a;
       others = None;
       rest = (k next).todo;
-      due = todo_is r k at ((at, stmt.If e a None) ∷ (k next).todo) h.0;
+      due = todo_is r k at ((at, stmt.If (expr_of e) a None) ∷ (k next).todo) h.0;
       first = b.due k (begins k at (at + 1) _ _ refl refl h.1);
       second = refl;
-      falls_first = falls_to r k at (entry a (at + 1) next) ((at, stmt.If e a None) ∷ (k next).todo) h.0 (b.inside k w (begins k at (at + 1) _ _ refl refl h.1));
-      falls_second = falls_to r k at next ((at, stmt.If e a None) ∷ (k next).todo) h.0 w;
+      falls_first = falls_to r k at (entry a (at + 1) next) ((at, stmt.If (expr_of e) a None) ∷ (k next).todo) h.0 (b.inside k w (begins k at (at + 1) _ _ refl refl h.1));
+      falls_second = falls_to r k at next ((at, stmt.If (expr_of e) a None) ∷ (k next).todo) h.0 w;
     },
     behind (globals_of r) k at (at + 1) added refl (b.nodes k w (begins k at (at + 1) _ _ refl refl h.1)),
   );
   due = λ k h. h.0;
 }
 
-pub stmt_else : (r : Room) (at m : ℕ) (e : CExpr) (a o : List CStmt) (first second : List Node) (next : ℕ) → m ≡ at + 1 + total (map size a) → BlockOk r (at + 1) first a next → BlockOk r m second o next → StmtOk r at (form.If e (entry a (at + 1) next) (entry o m next) ∷ (first ++ second)) (stmt.If e a (Some o)) next
+pub stmt_else : (r : Room) (at m : ℕ) (e : Term) (a o : List CStmt) (first second : List Node) (next : ℕ) → m ≡ at + 1 + total (map size a) → BlockOk r (at + 1) first a next → BlockOk r m second o next → StmtOk r at (form.If e (entry a (at + 1) next) (entry o m next) ∷ (first ++ second)) (stmt.If (expr_of e) a (Some o)) next
 stmt_else r at m e a o first second next place b c = record {
-  size_is = let f = b.size_is in let f2 = c.size_is in let j = length-append first second in let g : size (stmt.If e a (Some o)) ≡ 1 + total (map size a) + total (map size o) = size_If e a (Some o) in omega arith;
-  dues = λ rest. spot r ((at, stmt.If e a (Some o)) ∷ rest) ∷ (b.dues rest ++ c.dues rest);
+  size_is = let f = b.size_is in let f2 = c.size_is in let j = length-append first second in let g : size (stmt.If (expr_of e) a (Some o)) ≡ 1 + total (map size a) + total (map size o) = size_If (expr_of e) a (Some o) in omega arith;
+  dues = λ rest. spot r ((at, stmt.If (expr_of e) a (Some o)) ∷ rest) ∷ (b.dues rest ++ c.dues rest);
   lengths = λ rest. ap suc (length-append (b.dues rest) (c.dues rest) ∙ (let f = b.lengths rest in let g = c.lengths rest in let j = length-append first second in omega arith));
   nodes = λ k w h. (
     record {
       inner = a;
       others = Some o;
       rest = (k next).todo;
-      due = todo_is r k at ((at, stmt.If e a (Some o)) ∷ (k next).todo) h.0;
+      due = todo_is r k at ((at, stmt.If (expr_of e) a (Some o)) ∷ (k next).todo) h.0;
       first = b.due k (one k h);
       second = c.due k (two k h) ∙ ap (λ n. numbered n o ++ (k next).todo) place;
-      falls_first = falls_to r k at (entry a (at + 1) next) ((at, stmt.If e a (Some o)) ∷ (k next).todo) h.0 (b.inside k w (one k h));
-      falls_second = falls_to r k at (entry o m next) ((at, stmt.If e a (Some o)) ∷ (k next).todo) h.0 (c.inside k w (two k h));
+      falls_first = falls_to r k at (entry a (at + 1) next) ((at, stmt.If (expr_of e) a (Some o)) ∷ (k next).todo) h.0 (b.inside k w (one k h));
+      falls_second = falls_to r k at (entry o m next) ((at, stmt.If (expr_of e) a (Some o)) ∷ (k next).todo) h.0 (c.inside k w (two k h));
     },
     behind (globals_of r) k at (at + 1) (first ++ second) refl (part_append (globals_of r) k (at + 1) m first second (let f = b.size_is in omega arith) (b.nodes k w (one k h)) (c.nodes k w (two k h))),
   );
   due = λ k h. h.0;
 }
   where
-    one : (k : Due) → Agrees k at (spot r ((at, stmt.If e a (Some o)) ∷ (k next).todo) ∷ (b.dues (k next).todo ++ c.dues (k next).todo)) → Agrees k (at + 1) (b.dues (k next).todo)
+    one : (k : Due) → Agrees k at (spot r ((at, stmt.If (expr_of e) a (Some o)) ∷ (k next).todo) ∷ (b.dues (k next).todo ++ c.dues (k next).todo)) → Agrees k (at + 1) (b.dues (k next).todo)
     one k h = agrees_first k (at + 1) (b.dues (k next).todo) (c.dues (k next).todo) (begins k at (at + 1) _ _ refl refl h.1)
 
-    two : (k : Due) → Agrees k at (spot r ((at, stmt.If e a (Some o)) ∷ (k next).todo) ∷ (b.dues (k next).todo ++ c.dues (k next).todo)) → Agrees k m (c.dues (k next).todo)
+    two : (k : Due) → Agrees k at (spot r ((at, stmt.If (expr_of e) a (Some o)) ∷ (k next).todo) ∷ (b.dues (k next).todo ++ c.dues (k next).todo)) → Agrees k m (c.dues (k next).todo)
     two k h = agrees_second k (at + 1) m (b.dues (k next).todo) (c.dues (k next).todo) (let f = b.lengths (k next).todo in let g = b.size_is in omega arith) (begins k at (at + 1) _ _ refl refl h.1)
 
 -- ---- Arms

@@ -5,6 +5,7 @@ use Rattle.aplc_cprof.specs.declared.syntax.StuckCause.{StuckCause}
 use Rattle.aplc_cprof.specs.declared.syntax.StuckCause.TheVariants.{Range}
 use Rattle.aplc_cprof.specs.declared.syntax.Buf.{Buf}
 use Rattle.aplc_cprof.specs.Machine.{Value, Is, Bad, value, read_int, named_buf, is_scalar, padded_text, ranged, exact}
+use Rattle.aplc_crun.specs.Terms.{expr_of}
 use Rattle.aplc_crun.specs.declared.code.Node.{Node}
 use Rattle.aplc_crun.specs.declared.code.Node.TheVariants as form
 use Rattle.aplc_crun.specs.declared.code.Entry.{Entry}
@@ -76,15 +77,15 @@ module _ (f : Flat) (P : Type 0) (short : IsShort f → P) where
 
   waits_act : (l : Layout) (nd : Node) → (IsRead nd → P) → Waits (flat_act l nd f)
   waits_act l form.Leave r = waits_leave f.callers
-  waits_act l (form.Set x e next) r = waits_with (value e l.tables (env f)) _ (λ v. tt)
-  waits_act l (form.SetCell p e h next) r = waits_with (value e l.tables (env f)) _ (λ k. waits_with (value h l.tables (env f)) _ (λ v. waits_write (named_buf p (env f)) k v next))
+  waits_act l (form.Set x e next) r = waits_with (value (expr_of e) l.tables (env f)) _ (λ v. tt)
+  waits_act l (form.SetCell p e h next) r = waits_with (value (expr_of e) l.tables (env f)) _ (λ k. waits_with (value (expr_of h) l.tables (env f)) _ (λ v. waits_write (named_buf p (env f)) k v next))
   waits_act l (form.SetBuf p q next) r = tt
-  waits_act l (form.Cells p e next) r = waits_with (value e l.tables (env f)) _ (λ k. waits_make p k next)
+  waits_act l (form.Cells p e next) r = waits_with (value (expr_of e) l.tables (env f)) _ (λ k. waits_make p k next)
   waits_act l (form.Free p next) r = waits_free (named_buf p (env f)) next
-  waits_act l (form.Check x o e h next) r = waits_with (value e l.tables (env f)) _ (λ a. waits_with (value h l.tables (env f)) _ (λ b. waits_limit (ranged (exact o a b)) _ (λ v. tt)))
-  waits_act l (form.Width x e next) r = waits_with (value e l.tables (env f)) _ (λ v. tt)
-  waits_act l (form.PutNum e h next) r = waits_with (value e l.tables (env f)) _ (λ v. waits_with (value h l.tables (env f)) _ (λ w. waits_number v w next))
-  waits_act l (form.PutChar e next) r = waits_with (value e l.tables (env f)) _ (λ v. waits_character v next)
+  waits_act l (form.Check x o e h next) r = waits_with (value (expr_of e) l.tables (env f)) _ (λ a. waits_with (value (expr_of h) l.tables (env f)) _ (λ b. waits_limit (ranged (exact o a b)) _ (λ v. tt)))
+  waits_act l (form.Width x e next) r = waits_with (value (expr_of e) l.tables (env f)) _ (λ v. tt)
+  waits_act l (form.PutNum e h next) r = waits_with (value (expr_of e) l.tables (env f)) _ (λ v. waits_with (value (expr_of h) l.tables (env f)) _ (λ w. waits_number v w next))
+  waits_act l (form.PutChar e next) r = waits_with (value (expr_of e) l.tables (env f)) _ (λ v. waits_character v next)
   waits_act l (form.ReadText p next) r = (refl, r tt)
   waits_act l (form.ReadNums p next) r = (refl, r tt)
   waits_act l (form.ReadCount x next) r = tt
@@ -92,8 +93,8 @@ module _ (f : Flat) (P : Type 0) (short : IsShort f → P) where
   waits_act l (form.Fault k) r = tt
   waits_act l (form.Call k next) r = waits_enter (slice_get l.entries k) next
   waits_act l form.Return r = waits_leave f.callers
-  waits_act l (form.If e met other) r = waits_with (value e l.tables (env f)) _ (λ v. tt)
-  waits_act l (form.While e body next) r = waits_with (value e l.tables (env f)) _ (λ v. tt)
+  waits_act l (form.If e met other) r = waits_with (value (expr_of e) l.tables (env f)) _ (λ v. tt)
+  waits_act l (form.While e body next) r = waits_with (value (expr_of e) l.tables (env f)) _ (λ v. tt)
   waits_act l (form.Switch x arms other) r = waits_with (read_int x (env f)) _ (λ v. tt)
 
   waits_at : (l : Layout) (o : Option Node) → (ReadIsDue o → P) → Waits (act_at l o f)

@@ -5,14 +5,18 @@ use Rattle.aplc_cprof.specs.declared.syntax.Int.{Int}
 use Rattle.aplc_cprof.specs.declared.syntax.Int.TheVariants as int
 use Rattle.aplc_cprof.specs.declared.syntax.Buf.{Buf}
 use Rattle.aplc_cprof.specs.declared.syntax.Buf.TheVariants as buf
+use Rattle.aplc_cprof.specs.declared.syntax.CExpr.{CExpr}
 use Rattle.aplc_cprof.specs.declared.syntax.CStmt.{CStmt}
 use Rattle.aplc_cprof.specs.declared.syntax.Arm.{Arm}
 use Rattle.aplc_cprof.specs.declared.syntax.CFunction.{CFunction}
 use Rattle.aplc_cprof.specs.Machine.{Todo, numbered, bodies_from, size, total}
 use Rattle.aplc_crun.specs.Flat.{picked}
+use Rattle.aplc_crun.specs.Terms.{IsTerm}
+use Rattle.aplc_crun.specs.declared.term.Term.{Term}
 use Rattle.aplc_crun.specs.Laying.{Spot, Due, Globals, PartOk, AllFit}
 use Rattle.aplc_crun.specs.declared.code.Node.{Node}
-use Rattle.aplc_crun.specs.declared.code.Choice.{Choice}
+use Rattle.aplc_crun.specs.declared.code.Node.TheVariants as form
+use Rattle.aplc_crun.specs.declared.choices.Choice.{Choice}
 use Rattle.aplc_crun.specs.declared.code.Entry.{Entry}
 use Rattle.aplc_crun.specs.declared.lay.Room.{Room}
 
@@ -104,6 +108,17 @@ pub record LaidArms (r : Room) (old new : List Node) (arms : List Arm) (next : �
   pub added : List Node
   pub new_is : new ≡ old ++ added
   pub ok : ArmsOk r (length old) added arms next
+
+-- one node more: a condition, with the places where it holds and where it does not
+pub record OpenedIf (old new : List Node) (e : CExpr) (met other : ℕ) : Type 0 where
+  pub term : Term
+  pub same : IsTerm e term
+  pub new_is : new ≡ old ++ form.If term met other ∷ []
+
+pub record OpenedWhile (old new : List Node) (e : CExpr) (body next : ℕ) : Type 0 where
+  pub term : Term
+  pub same : IsTerm e term
+  pub new_is : new ≡ old ++ form.While term body next ∷ []
 
 abbrev pub sizes_of : List CFunction → ℕ
 sizes_of [] = 0

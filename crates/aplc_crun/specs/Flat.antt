@@ -11,9 +11,10 @@ use Rattle.aplc_cprof.specs.declared.syntax.StuckCause.{StuckCause}
 use Rattle.aplc_cprof.specs.declared.syntax.StuckCause.TheVariants.{Outside, Freed, Range}
 use Rattle.aplc_cprof.specs.Machine.{Value, Is, Bad, State, value, read_int, named_buf, is_zero, ranged, exact, text_width, padded_text, is_scalar}
 use Rattle.aplc_crun.specs.Seen.{joined, or_zero, written_in}
+use Rattle.aplc_crun.specs.Terms.{expr_of}
 use Rattle.aplc_crun.specs.declared.code.Node.{Node}
 use Rattle.aplc_crun.specs.declared.code.Node.TheVariants as node
-use Rattle.aplc_crun.specs.declared.code.Choice.{Choice}
+use Rattle.aplc_crun.specs.declared.choices.Choice.{Choice}
 use Rattle.aplc_crun.specs.declared.code.Entry.{Entry}
 use Rattle.aplc_crun.specs.declared.code.Laid.{Laid}
 use Rattle.aplc_crun.specs.declared.live.Live.{Live}
@@ -199,19 +200,19 @@ picked v (c ∷ cs) other = if int_eq v c.value then c.at else picked v cs other
 
 abbrev pub flat_act : Layout → Node → Flat → Flow
 flat_act l node.Leave f = leave_to f.callers f
-flat_act l (node.Set x e next) f = with_number (value e l.tables (env f)) f (λ v. go_to next (with_int x v f))
+flat_act l (node.Set x e next) f = with_number (value (expr_of e) l.tables (env f)) f (λ v. go_to next (with_int x v f))
 flat_act l (node.SetCell p e g next) f =
-    with_number (value e l.tables (env f)) f (λ k. with_number (value g l.tables (env f)) f (λ v. write_cell (named_buf p (env f)) k v next f))
+    with_number (value (expr_of e) l.tables (env f)) f (λ k. with_number (value (expr_of g) l.tables (env f)) f (λ v. write_cell (named_buf p (env f)) k v next f))
 flat_act l (node.SetBuf p q next) f = go_to next (with_buf p (other_buf q f) f)
-flat_act l (node.Cells p e next) f = with_number (value e l.tables (env f)) f (λ k. make_cells p k next f)
+flat_act l (node.Cells p e next) f = with_number (value (expr_of e) l.tables (env f)) f (λ k. make_cells p k next f)
 flat_act l (node.Free p next) f = free_cells (named_buf p (env f)) next f
 flat_act l (node.Check x o e g next) f =
-    with_number (value e l.tables (env f)) f (λ a. with_number (value g l.tables (env f)) f (λ b.
+    with_number (value (expr_of e) l.tables (env f)) f (λ a. with_number (value (expr_of g) l.tables (env f)) f (λ b.
     or_limit (ranged (exact o a b)) f (λ v. go_to next (with_int x v f))))
-flat_act l (node.Width x e next) f = with_number (value e l.tables (env f)) f (λ v. go_to next (with_int x (pos (text_width v)) f))
+flat_act l (node.Width x e next) f = with_number (value (expr_of e) l.tables (env f)) f (λ v. go_to next (with_int x (pos (text_width v)) f))
 flat_act l (node.PutNum e g next) f =
-    with_number (value e l.tables (env f)) f (λ v. with_number (value g l.tables (env f)) f (λ w. put_number v w next f))
-flat_act l (node.PutChar e next) f = with_number (value e l.tables (env f)) f (λ v. put_character v next f)
+    with_number (value (expr_of e) l.tables (env f)) f (λ v. with_number (value (expr_of g) l.tables (env f)) f (λ w. put_number v w next f))
+flat_act l (node.PutChar e next) f = with_number (value (expr_of e) l.tables (env f)) f (λ v. put_character v next f)
 flat_act l (node.ReadText p next) f = Held f
 flat_act l (node.ReadNums p next) f = Held f
 flat_act l (node.ReadCount x next) f = go_to next (with_int x f.read_count f)
@@ -219,8 +220,8 @@ flat_act l (node.At name line next) f = go_to next (record f { mark = f.at })
 flat_act l (node.Fault k) f = Faulted k f
 flat_act l (node.Call k next) f = enter (slice_get l.entries k) next f
 flat_act l node.Return f = leave_to f.callers f
-flat_act l (node.If e met other) f = with_number (value e l.tables (env f)) f (λ v. go_to (if is_zero v then other else met) f)
-flat_act l (node.While e body next) f = with_number (value e l.tables (env f)) f (λ v. go_to (if is_zero v then next else body) f)
+flat_act l (node.If e met other) f = with_number (value (expr_of e) l.tables (env f)) f (λ v. go_to (if is_zero v then other else met) f)
+flat_act l (node.While e body next) f = with_number (value (expr_of e) l.tables (env f)) f (λ v. go_to (if is_zero v then next else body) f)
 flat_act l (node.Switch x arms other) f = with_number (read_int x (env f)) f (λ v. go_to (picked v arms other) f)
 
 -- past the end a function is left

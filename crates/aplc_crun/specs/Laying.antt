@@ -11,9 +11,10 @@ use Rattle.aplc_cprof.specs.declared.syntax.Arm.{Arm}
 use Rattle.aplc_cprof.specs.Machine.{Todo, Code, numbered, numbered_if, chosen, size, total, State, Caller, cells_of}
 use Rattle.aplc_crun.specs.Seen.{joined, or_zero}
 use Rattle.aplc_crun.specs.Flat.{Flat, Kept, Layout, picked}
+use Rattle.aplc_crun.specs.Terms.{expr_of}
 use Rattle.aplc_crun.specs.declared.code.Node.{Node}
 use Rattle.aplc_crun.specs.declared.code.Node.TheVariants as form
-use Rattle.aplc_crun.specs.declared.code.Choice.{Choice}
+use Rattle.aplc_crun.specs.declared.choices.Choice.{Choice}
 use Rattle.aplc_crun.specs.declared.code.Entry.{Entry}
 
 -- the statements that are due from a place on, and how many variables of a frame they may name
@@ -80,15 +81,15 @@ pub record SwitchAt (k : Due) (n : ℕ) (x : Int) (choices : List Choice) (other
 -- what a place's statement is to what is due there
 abbrev pub NodeOk : Globals → Due → ℕ → Node → Type 0
 NodeOk g k n form.Leave = (k n).todo ≡ []
-NodeOk g k n (form.Set x e next) = OnwardAt k n (stmt.Set x e) next × IntIn g (k n) x
-NodeOk g k n (form.SetCell p e f next) = OnwardAt k n (stmt.SetCell p e f) next
+NodeOk g k n (form.Set x e next) = OnwardAt k n (stmt.Set x (expr_of e)) next × IntIn g (k n) x
+NodeOk g k n (form.SetCell p e f next) = OnwardAt k n (stmt.SetCell p (expr_of e) (expr_of f)) next
 NodeOk g k n (form.SetBuf p q next) = OnwardAt k n (stmt.SetBuf p q) next × BufIn g (k n) p
-NodeOk g k n (form.Cells p e next) = OnwardAt k n (stmt.Cells p e) next × BufIn g (k n) p
+NodeOk g k n (form.Cells p e next) = OnwardAt k n (stmt.Cells p (expr_of e)) next × BufIn g (k n) p
 NodeOk g k n (form.Free p next) = OnwardAt k n (stmt.Free p) next
-NodeOk g k n (form.Check x o e f next) = OnwardAt k n (stmt.Check x o e f) next × IntIn g (k n) x
-NodeOk g k n (form.Width x e next) = OnwardAt k n (stmt.Width x e) next × IntIn g (k n) x
-NodeOk g k n (form.PutNum e f next) = OnwardAt k n (stmt.PutNum e f) next
-NodeOk g k n (form.PutChar e next) = OnwardAt k n (stmt.PutChar e) next
+NodeOk g k n (form.Check x o e f next) = OnwardAt k n (stmt.Check x o (expr_of e) (expr_of f)) next × IntIn g (k n) x
+NodeOk g k n (form.Width x e next) = OnwardAt k n (stmt.Width x (expr_of e)) next × IntIn g (k n) x
+NodeOk g k n (form.PutNum e f next) = OnwardAt k n (stmt.PutNum (expr_of e) (expr_of f)) next
+NodeOk g k n (form.PutChar e next) = OnwardAt k n (stmt.PutChar (expr_of e)) next
 NodeOk g k n (form.ReadText p next) = OnwardAt k n (stmt.ReadText p) next × BufIn g (k n) p
 NodeOk g k n (form.ReadNums p next) = OnwardAt k n (stmt.ReadNums p) next × BufIn g (k n) p
 NodeOk g k n (form.ReadCount x next) = OnwardAt k n (stmt.ReadCount x) next × IntIn g (k n) x
@@ -96,8 +97,8 @@ NodeOk g k n (form.At name line next) = OnwardAt k n (stmt.At name line) next
 NodeOk g k n (form.Fault kind) = LastAt k n (stmt.Fault kind)
 NodeOk g k n (form.Call f next) = OnwardAt k n (stmt.Call f) next
 NodeOk g k n form.Return = LastAt k n stmt.Return
-NodeOk g k n (form.If e met other) = IfAt k n e met other
-NodeOk g k n (form.While e body next) = WhileAt k n e body next
+NodeOk g k n (form.If e met other) = IfAt k n (expr_of e) met other
+NodeOk g k n (form.While e body next) = WhileAt k n (expr_of e) body next
 NodeOk g k n (form.Switch x choices other) = SwitchAt k n x choices other
 
 abbrev pub PartOk : Globals → Due → ℕ → List Node → Type 0

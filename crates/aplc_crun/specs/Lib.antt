@@ -1,8 +1,11 @@
 pub mod Seen
+pub mod Terms
+pub mod Choosing
 pub mod Flat
 pub mod Laying
 pub mod Building
 pub mod Pausing
+pub mod Sprinting
 pub mod Running
 pub mod Advancing
 pub mod Ran

@@ -159,10 +159,9 @@ fn quick_remainder(a: i64, b: i64) -> i64
     a.wrapping_rem(b)
 }
 
-/// What an operator that needs both sides gives, or the least number where there may be no value.
-#[inline]
+/// What an operator gives where both sides have a value, or the least number where there may be none.
+#[inline(always)]
 pub fn quick_both(op: Op, a: i64, b: i64) -> i64
-    requires { IsStrict op }
     ensures { ¬ (result ≡ i64.MIN) → apply op (Is a) (Is b) ≡ Is result }
 {
     match op {
@@ -177,6 +176,19 @@ pub fn quick_both(op: Op, a: i64, b: i64) -> i64
         Op::NotEqual => truth_value(a != b),
         Op::GreaterEq => truth_value(a >= b),
         Op::Greater => truth_value(a > b),
-        Op::And | Op::Or => unreachable!(),
+        Op::And => truth_value(a != 0 && b != 0),
+        Op::Or => truth_value(a != 0 || b != 0),
+    }
+}
+
+/// What checked arithmetic gives, or the least number where it is out of range.
+#[inline]
+pub fn quick_checked(op: Checked, a: i64, b: i64) -> i64
+    ensures { ¬ (result ≡ i64.MIN) → ranged (exact op a b) ≡ Is result }
+{
+    match op {
+        Checked::Add => quick_add(a, b),
+        Checked::Sub => quick_subtract(a, b),
+        Checked::Mul => quick_multiply(a, b),
     }
 }

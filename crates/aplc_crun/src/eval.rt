@@ -1,18 +1,22 @@
-//! The value of an expression: first in a quick way that tells no cause, and where that has none once more.
+//! The value of an expression, or why it has none: first in a quick way, and where that has none once more.
 //! It must not change what it reads.
 
 ghost use Rattle.std.specs.Prelude.{◌≡◌, slice_get};
 ghost use Rattle.std.specs.Option.{option_copied};
-ghost use Rattle.aplc_cprof.specs.Machine.{value, read_int, named_buf, live_cell, table_cell, item_at, Is};
+ghost use Rattle.aplc_cprof.specs.Machine.{value, read_int, named_buf, live_cell, table_cell, item_at};
 ghost use Rattle.aplc_crun.specs.Seen.{value_of, joined, looked_up};
+ghost use Rattle.aplc_crun.specs.Terms.{leaf_of, expr_of};
 ghost use Rattle.aplc_crun.specs.Flat.{seen};
 
-use crate::arith::{both_values, quick_both, truth_value};
+use crate::arith::{both_values, truth_value};
 use crate::live::Live;
+use crate::quick::quick_term;
+use crate::term::{Operand, Term};
 use aplc_cprof::{Buf, CExpr, Int, List, Op, StuckCause};
 
+/// What is at a place of a list.
 #[inline]
-fn at<T>(items: &[T], place: u32) -> Option<&T>
+pub fn at<T>(items: &[T], place: u32) -> Option<&T>
     ensures { option_copied result ≡ slice_get items.now place }
 {
     items.get(place as usize)
@@ -125,146 +129,61 @@ fn slow(e: &CExpr, tables: &[List<i64>], live: &Live) -> Result<i64, StuckCause>
     }
 }
 
-#[inline]
-fn quick_read(x: Int, live: &Live) -> i64
-    ensures { ¬ (result ≡ i64.MIN) → read_int x (seen live.now) ≡ Is result }
+/// The value of an operand.
+#[tactic(auto, using(aplc_cprof::proofs::Values::value_Lit, aplc_cprof::proofs::Values::value_Var))]
+fn operand_value(o: Operand, tables: &[List<i64>], live: &Live) -> Result<i64, StuckCause>
+    ensures { value_of result ≡ value (leaf_of o) tables.now (seen live.now) }
 {
-    match x {
-        Int::Local(n) => match at(live.ints.as_slice(), n) {
-            Some(Some(v)) => *v,
-            _ => i64::MIN,
-        },
-        Int::Global(n) => match at(live.global_ints.as_slice(), n) {
-            Some(v) => *v,
-            None => 0,
-        },
+    match o {
+        Operand::Lit(n) => Ok(n),
+        Operand::Local(n) => read(Int::Local(n), live),
+        Operand::Global(n) => read(Int::Global(n), live),
     }
 }
 
-#[inline]
-fn quick_item(items: &[i64], place: i64) -> i64
-    ensures { ¬ (result ≡ i64.MIN) → item_at items.now place ≡ Is result }
-{
-    if place < 0 {
-        return i64::MIN;
-    }
-    match items.get(place as usize) {
-        Some(v) => *v,
-        None => i64::MIN,
-    }
-}
-
-#[inline]
-fn quick_cell(p: Buf, place: i64, live: &Live) -> i64
-    ensures { ¬ (result ≡ i64.MIN) → looked_up live.now.heap.buffers.items (named_buf p (seen live.now)) place ≡ Is result }
-{
-    match named(p, live) {
-        None => i64::MIN,
-        Some(b) => match live.heap.buffers.get(b) {
-            Some(Some(cells)) => quick_item(cells.as_slice(), place),
-            _ => i64::MIN,
-        },
-    }
-}
-
-#[inline]
-fn quick_table(tables: &[List<i64>], k: u32, place: i64) -> i64
-    ensures { ¬ (result ≡ i64.MIN) → table_cell (slice_get tables.now k) place ≡ Is result }
-{
-    match at(tables, k) {
-        None => i64::MIN,
-        Some(items) => quick_item(items.as_slice(), place),
-    }
-}
-
-/// The value of a literal or of a variable, and else the least number, which is no value.
-#[inline(always)]
+#[inline(never)]
 #[tactic(auto, unfolding(aplc_cprof::specs::Machine::value))]
-fn leaf(e: &CExpr, tables: &[List<i64>], live: &Live) -> i64
-    ensures { ¬ (result ≡ i64.MIN) → value e.now tables.now (seen live.now) ≡ Is result }
+fn slow_term(t: &Term, tables: &[List<i64>], live: &Live) -> Result<i64, StuckCause>
+    ensures { value_of result ≡ value (expr_of t.now) tables.now (seen live.now) }
 {
-    match e {
-        CExpr::Lit(n) => *n,
-        CExpr::Var(x) => quick_read(*x, live),
-        _ => i64::MIN,
-    }
-}
-
-/// The value, or the least number where there may be none.
-#[tactic(auto, unfolding(aplc_cprof::specs::Machine::value))]
-fn quick(e: &CExpr, tables: &[List<i64>], live: &Live) -> i64
-    ensures { ¬ (result ≡ i64.MIN) → value e.now tables.now (seen live.now) ≡ Is result }
-{
-    match e {
-        CExpr::Lit(n) => *n,
-        CExpr::Var(x) => quick_read(*x, live),
-        CExpr::Cell(p, e) => {
-            let place = quick(e.get(), tables, live);
-            if place == i64::MIN {
-                return i64::MIN;
-            }
-            quick_cell(*p, place, live)
+    match t {
+        Term::Leaf(o) => operand_value(*o, tables, live),
+        Term::Cell(p, o) => {
+            let place = operand_value(*o, tables, live)?;
+            cell(*p, place, live)
         }
-        CExpr::Table(k, e) => {
-            let place = quick(e.get(), tables, live);
-            if place == i64::MIN {
-                return i64::MIN;
+        Term::Both(Op::And, a, b) => {
+            let a = operand_value(*a, tables, live)?;
+            if a == 0 {
+                return Ok(0);
             }
-            quick_table(tables, *k, place)
+            let b = operand_value(*b, tables, live)?;
+            Ok(truth_value(b != 0))
         }
-        CExpr::Bin(Op::And, a, b) => {
-            let x = quick(a.get(), tables, live);
-            if x == i64::MIN || x == 0 {
-                return x;
+        Term::Both(Op::Or, a, b) => {
+            let a = operand_value(*a, tables, live)?;
+            if a != 0 {
+                return Ok(1);
             }
-            let y = quick(b.get(), tables, live);
-            if y == i64::MIN {
-                return i64::MIN;
-            }
-            truth_value(y != 0)
+            let b = operand_value(*b, tables, live)?;
+            Ok(truth_value(b != 0))
         }
-        CExpr::Bin(Op::Or, a, b) => {
-            let x = quick(a.get(), tables, live);
-            if x == i64::MIN {
-                return i64::MIN;
-            }
-            if x != 0 {
-                return 1;
-            }
-            let y = quick(b.get(), tables, live);
-            if y == i64::MIN {
-                return i64::MIN;
-            }
-            truth_value(y != 0)
+        Term::Both(op, a, b) => {
+            let a = operand_value(*a, tables, live)?;
+            let b = operand_value(*b, tables, live)?;
+            both_values(*op, a, b)
         }
-        CExpr::Bin(op, a, b) => {
-            let mut x = leaf(a.get(), tables, live);
-            if x == i64::MIN {
-                x = quick(a.get(), tables, live);
-                if x == i64::MIN {
-                    return i64::MIN;
-                }
-            }
-            let mut y = leaf(b.get(), tables, live);
-            if y == i64::MIN {
-                y = quick(b.get(), tables, live);
-                if y == i64::MIN {
-                    return i64::MIN;
-                }
-            }
-            quick_both(*op, x, y)
-        }
+        Term::Other(e) => slow(e, tables, live),
     }
 }
 
 /// The value of an expression, or why there is none.
-#[inline(always)]
-pub fn eval(e: &CExpr, tables: &[List<i64>], live: &Live) -> Result<i64, StuckCause>
-    ensures { value_of result ≡ value e.now tables.now (seen live.now) }
+pub fn eval(t: &Term, tables: &[List<i64>], live: &Live) -> Result<i64, StuckCause>
+    ensures { value_of result ≡ value (expr_of t.now) tables.now (seen live.now) }
 {
-    let v = quick(e, tables, live);
+    let v = quick_term(t, tables, live);
     if v != i64::MIN {
         return Ok(v);
     }
-    slow(e, tables, live)
+    slow_term(t, tables, live)
 }

@@ -4,12 +4,14 @@
 ghost use Rattle.std.specs.Prelude.{◌≡◌, ◌+◌, ◌∷◌, ◌++◌, [], OnOk, IfOk, length, map};
 ghost use Rattle.aplc_cprof.specs.declared.syntax.CStmt.TheVariants as stmt;
 ghost use Rattle.aplc_crun.specs.declared.code.Node.TheVariants as form;
-ghost use Rattle.aplc_crun.specs.Building.{IntInRoom, BufInRoom, LaidStmt, LaidBlock, LaidArms, LaidFunctions, choices_of, globals};
+ghost use Rattle.aplc_crun.specs.Building.{IntInRoom, BufInRoom, LaidStmt, LaidBlock, LaidArms, LaidFunctions, OpenedIf, OpenedWhile, choices_of, arm_size, entry, globals};
+ghost use Rattle.aplc_cprof.specs.Machine.{size, total};
 
-use crate::code::{Choice, Entry, Laid, Node};
+use crate::choices::{Choice, Choices};
+use crate::code::{Entry, Laid, Node};
 use crate::sizes::{after, after_all, after_arms, begin, next_place};
+use crate::term::laid_term;
 use aplc_cprof::{Arm, Buf, CExpr, CFunction, CProgram, CStmt, Checked, Int, List};
-use sqlite_items::{Boxed, Items};
 use std::alloc::{AllocError, Global};
 
 /// How many variables the statements of a function may name.
@@ -19,28 +21,6 @@ pub struct Room {
     pub bufs: usize,
     pub global_ints: usize,
     pub global_bufs: usize,
-}
-
-fn copy(alloc: Global, e: &CExpr) -> Result<CExpr, AllocError>
-    ensures { IfOk result (λ c. c ≡ e.now) }
-{
-    match e {
-        CExpr::Lit(n) => Ok(CExpr::Lit(*n)),
-        CExpr::Var(x) => Ok(CExpr::Var(*x)),
-        CExpr::Cell(p, e) => {
-            let e = copy(alloc, e.get())?;
-            Ok(CExpr::Cell(*p, Boxed::new(alloc, e)?))
-        }
-        CExpr::Table(k, e) => {
-            let e = copy(alloc, e.get())?;
-            Ok(CExpr::Table(*k, Boxed::new(alloc, e)?))
-        }
-        CExpr::Bin(op, a, b) => {
-            let a = copy(alloc, a.get())?;
-            let b = copy(alloc, b.get())?;
-            Ok(CExpr::Bin(*op, Boxed::new(alloc, a)?, Boxed::new(alloc, b)?))
-        }
-    }
 }
 
 fn copy_name(alloc: Global, name: &[u8]) -> Result<List<u8>, AllocError>
@@ -83,7 +63,7 @@ fn lay_set(
     ensures { OnOk result (LaidStmt room code.old.items code.new.items (stmt.Set x e.now) next) }
 {
     int_in_room(room, x)?;
-    let e = copy(alloc, e)?;
+    let e = laid_term(alloc, e)?;
     code.push(Node::Set(x, e, next))?;
     Ok(())
 }
@@ -100,8 +80,8 @@ fn lay_set_cell(
 ) -> Result<(), AllocError>
     ensures { OnOk result (LaidStmt room code.old.items code.new.items (stmt.SetCell p e.now f.now) next) }
 {
-    let e = copy(alloc, e)?;
-    let f = copy(alloc, f)?;
+    let e = laid_term(alloc, e)?;
+    let f = laid_term(alloc, f)?;
     code.push(Node::SetCell(p, e, f, next))?;
     Ok(())
 }
@@ -133,7 +113,7 @@ fn lay_cells(
     ensures { OnOk result (LaidStmt room code.old.items code.new.items (stmt.Cells p e.now) next) }
 {
     buf_in_room(room, p)?;
-    let e = copy(alloc, e)?;
+    let e = laid_term(alloc, e)?;
     code.push(Node::Cells(p, e, next))?;
     Ok(())
 }
@@ -152,8 +132,8 @@ fn lay_check(
     ensures { OnOk result (LaidStmt room code.old.items code.new.items (stmt.Check x o e.now f.now) next) }
 {
     int_in_room(room, x)?;
-    let e = copy(alloc, e)?;
-    let f = copy(alloc, f)?;
+    let e = laid_term(alloc, e)?;
+    let f = laid_term(alloc, f)?;
     code.push(Node::Check(x, o, e, f, next))?;
     Ok(())
 }
@@ -170,7 +150,7 @@ fn lay_width(
     ensures { OnOk result (LaidStmt room code.old.items code.new.items (stmt.Width x e.now) next) }
 {
     int_in_room(room, x)?;
-    let e = copy(alloc, e)?;
+    let e = laid_term(alloc, e)?;
     code.push(Node::Width(x, e, next))?;
     Ok(())
 }
@@ -186,8 +166,8 @@ fn lay_put_num(
 ) -> Result<(), AllocError>
     ensures { OnOk result (LaidStmt room code.old.items code.new.items (stmt.PutNum e.now f.now) next) }
 {
-    let e = copy(alloc, e)?;
-    let f = copy(alloc, f)?;
+    let e = laid_term(alloc, e)?;
+    let f = laid_term(alloc, f)?;
     code.push(Node::PutNum(e, f, next))?;
     Ok(())
 }
@@ -202,7 +182,7 @@ fn lay_put_char(
 ) -> Result<(), AllocError>
     ensures { OnOk result (LaidStmt room code.old.items code.new.items (stmt.PutChar e.now) next) }
 {
-    let e = copy(alloc, e)?;
+    let e = laid_term(alloc, e)?;
     code.push(Node::PutChar(e, next))?;
     Ok(())
 }
@@ -250,46 +230,6 @@ fn lay_at(
     Ok(())
 }
 
-fn push_if(
-    alloc: Global,
-    code: &mut Vec<Node>,
-    e: &CExpr,
-    met: usize,
-    other: usize,
-) -> Result<(), AllocError>
-    ensures { OnOk result (code.new.items ≡ code.old.items ++ form.If e.now met other ∷ []) }
-{
-    let e = copy(alloc, e)?;
-    code.push(Node::If(e, met, other))?;
-    Ok(())
-}
-
-fn push_while(
-    alloc: Global,
-    code: &mut Vec<Node>,
-    e: &CExpr,
-    body: usize,
-    next: usize,
-) -> Result<(), AllocError>
-    ensures { OnOk result (code.new.items ≡ code.old.items ++ form.While e.now body next ∷ []) }
-{
-    let e = copy(alloc, e)?;
-    code.push(Node::While(e, body, next))?;
-    Ok(())
-}
-
-fn push_switch(
-    code: &mut Vec<Node>,
-    x: Int,
-    choices: Vec<Choice>,
-    other: usize,
-) -> Result<(), AllocError>
-    ensures { OnOk result (code.new.items ≡ code.old.items ++ form.Switch x choices.items other ∷ []) }
-{
-    code.push(Node::Switch(x, Items::from_vec(choices), other))?;
-    Ok(())
-}
-
 /// The arms' numbers, each with the place where its arm begins. The first arm's statements stand at a place.
 fn place_arms(
     alloc: Global,
@@ -311,6 +251,100 @@ fn place_arms(
         place = after_all(place, body)?;
     }
     Ok(choices)
+}
+
+#[tactic(auto, using(crate::proofs::Laid::laid_Free))]
+fn lay_free(room: Room, code: &mut Vec<Node>, p: Buf, next: usize) -> Result<(), AllocError>
+    ensures { OnOk result (LaidStmt room code.old.items code.new.items (stmt.Free p) next) }
+{
+    code.push(Node::Free(p, next))?;
+    Ok(())
+}
+
+#[tactic(auto, using(crate::proofs::Laid::laid_Call))]
+fn lay_call(room: Room, code: &mut Vec<Node>, f: u32, next: usize) -> Result<(), AllocError>
+    ensures { OnOk result (LaidStmt room code.old.items code.new.items (stmt.Call f) next) }
+{
+    code.push(Node::Call(f, next))?;
+    Ok(())
+}
+
+/// A condition with no other side, before the statements that it guards.
+#[tactic(auto, using(crate::proofs::Laid::opened_if))]
+fn open_if(
+    alloc: Global,
+    code: &mut Vec<Node>,
+    e: &CExpr,
+    a: &[CStmt],
+    next: usize,
+) -> Result<(), AllocError>
+    ensures { OnOk result (OpenedIf code.old.items code.new.items e.now (entry a.now (length code.old.items + 1) next) next) }
+{
+    let e = laid_term(alloc, e)?;
+    let start = next_place(code.len())?;
+    let met = begin(a, start, next);
+    code.push(Node::If(e, met, next))?;
+    Ok(())
+}
+
+/// A condition, before the statements of its two sides.
+#[tactic(auto, using(crate::proofs::Laid::opened_else))]
+fn open_else(
+    alloc: Global,
+    code: &mut Vec<Node>,
+    e: &CExpr,
+    a: &[CStmt],
+    o: &[CStmt],
+    next: usize,
+) -> Result<(), AllocError>
+    ensures { OnOk result (OpenedIf code.old.items code.new.items e.now (entry a.now (length code.old.items + 1) next) (entry o.now (length code.old.items + 1 + total (map size a.now)) next)) }
+{
+    let e = laid_term(alloc, e)?;
+    let start = next_place(code.len())?;
+    let met = begin(a, start, next);
+    let middle = after_all(start, a)?;
+    let other = begin(o, middle, next);
+    code.push(Node::If(e, met, other))?;
+    Ok(())
+}
+
+/// A loop, before its statements.
+#[tactic(auto, using(crate::proofs::Laid::opened_while))]
+fn open_while(
+    alloc: Global,
+    code: &mut Vec<Node>,
+    e: &CExpr,
+    a: &[CStmt],
+    next: usize,
+) -> Result<(), AllocError>
+    ensures { OnOk result (OpenedWhile code.old.items code.new.items e.now (entry a.now (length code.old.items + 1) (length code.old.items)) next) }
+{
+    let e = laid_term(alloc, e)?;
+    let at = code.len();
+    let start = next_place(at)?;
+    let body = begin(a, start, at);
+    code.push(Node::While(e, body, next))?;
+    Ok(())
+}
+
+/// A switch, before the statements of its arms and of its default.
+#[tactic(auto, using(crate::proofs::Laid::opened_switch))]
+fn open_switch(
+    alloc: Global,
+    code: &mut Vec<Node>,
+    x: Int,
+    arms: &[Arm],
+    d: &[CStmt],
+    next: usize,
+) -> Result<(), AllocError>
+    ensures { OnOk result (code.new.items ≡ code.old.items ++ form.Switch x (choices_of (length code.old.items + 1) arms.now next) (entry d.now (length code.old.items + 1 + total (map arm_size arms.now)) next) ∷ []) }
+{
+    let start = next_place(code.len())?;
+    let choices = place_arms(alloc, start, arms, next)?;
+    let middle = after_arms(start, arms)?;
+    let other = begin(d, middle, next);
+    code.push(Node::Switch(x, Choices::new(choices), other))?;
+    Ok(())
 }
 
 #[cycle(lays)]
@@ -337,55 +371,37 @@ fn lay_stmt(
         CStmt::ReadNums(p) => lay_read_nums(room, code, *p, next),
         CStmt::ReadCount(x) => lay_read_count(room, code, *x, next),
         CStmt::At(name, line) => lay_at(alloc, room, code, name.as_slice(), *line, next),
-        CStmt::Free(p) => {
-            code.push(Node::Free(*p, next))?;
-            Ok(())
-        }
+        CStmt::Free(p) => lay_free(room, code, *p, next),
         CStmt::Fault(kind) => {
             code.push(Node::Fault(*kind))?;
             Ok(())
         }
-        CStmt::Call(f) => {
-            code.push(Node::Call(*f, next))?;
-            Ok(())
-        }
+        CStmt::Call(f) => lay_call(room, code, *f, next),
         CStmt::Return => {
             code.push(Node::Return)?;
             Ok(())
         }
-        CStmt::If(e, a, o) => {
-            let start = next_place(code.len())?;
-            let met = begin(a.as_slice(), start, next);
-            match o {
-                None => {
-                    push_if(alloc, code, e, met, next)?;
-                    lay_block(alloc, room, code, a.as_slice(), next)?;
-                    Ok(())
-                }
-                Some(o) => {
-                    let middle = after_all(start, a.as_slice())?;
-                    let other = begin(o.as_slice(), middle, next);
-                    push_if(alloc, code, e, met, other)?;
-                    lay_block(alloc, room, code, a.as_slice(), next)?;
-                    lay_block(alloc, room, code, o.as_slice(), next)?;
-                    Ok(())
-                }
+        CStmt::If(e, a, o) => match o {
+            None => {
+                open_if(alloc, code, e, a.as_slice(), next)?;
+                lay_block(alloc, room, code, a.as_slice(), next)?;
+                Ok(())
             }
-        }
+            Some(o) => {
+                open_else(alloc, code, e, a.as_slice(), o.as_slice(), next)?;
+                lay_block(alloc, room, code, a.as_slice(), next)?;
+                lay_block(alloc, room, code, o.as_slice(), next)?;
+                Ok(())
+            }
+        },
         CStmt::While(e, a) => {
             let at = code.len();
-            let start = next_place(at)?;
-            let body = begin(a.as_slice(), start, at);
-            push_while(alloc, code, e, body, next)?;
+            open_while(alloc, code, e, a.as_slice(), next)?;
             lay_block(alloc, room, code, a.as_slice(), at)?;
             Ok(())
         }
         CStmt::Switch(x, arms, d) => {
-            let start = next_place(code.len())?;
-            let choices = place_arms(alloc, start, arms.as_slice(), next)?;
-            let middle = after_arms(start, arms.as_slice())?;
-            let other = begin(d.as_slice(), middle, next);
-            push_switch(code, *x, choices, other)?;
+            open_switch(alloc, code, *x, arms.as_slice(), d.as_slice(), next)?;
             lay_arms(alloc, room, code, arms.as_slice(), next)?;
             lay_block(alloc, room, code, d.as_slice(), next)?;
             Ok(())

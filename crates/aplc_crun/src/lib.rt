@@ -4,6 +4,7 @@
 
 mod advance;
 mod arith;
+mod choices;
 mod code;
 mod decode;
 mod eval;
@@ -14,14 +15,19 @@ mod live;
 mod machine;
 mod pending;
 mod print;
+mod quick;
 mod reading;
 mod run_live;
 #[cfg(test)]
 mod run_tests;
 mod running;
 mod sizes;
+mod sprint;
 mod step;
 mod stop;
+#[cfg(test)]
+mod switch_tests;
+mod term;
 #[cfg(test)]
 mod tests;
 

@@ -8,6 +8,7 @@ ghost use Rattle.aplc_crun.specs.Pausing.{paused, ReadIsDue, MemoryIsDue};
 
 use crate::code::Laid;
 use crate::live::{Live, Verdict};
+use crate::sprint::sprint;
 use crate::step::step;
 use std::alloc::{AllocError, Global};
 
@@ -31,12 +32,15 @@ pub fn run_live(
     ensures kept { OnErr result (Going (flat_of live.new) ≡ flat_run (layout_of laid.now) (live.new.steps - live.old.steps) (flat_of live.old)) }
     ensures hungry { OnErr result (MemoryIsDue (slice_get laid.now.nodes.items live.new.at)) }
 {
-    for turn in 0..budget {
+    let mut taken = sprint(laid, live, budget);
+    while taken < budget {
         match step(alloc, laid, live)? {
             Verdict::Going => {}
             Verdict::Held => return Ok(Verdict::Held),
             verdict => return Ok(verdict),
         }
+        taken += 1;
+        taken += sprint(laid, live, budget - taken);
     }
     Ok(Verdict::Going)
 }

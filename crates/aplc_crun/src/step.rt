@@ -2,23 +2,26 @@
 //! It must not know how the statements were laid out, nor where input comes from and output goes.
 
 ghost use Rattle.std.specs.Prelude.{◌≡◌, ◌+◌, ◌<◌, ◌^◌, ℕ, IfOk, OnErr, OnOk, slice_get};
-ghost use Rattle.aplc_cprof.specs.declared.syntax.CExpr.{CExpr};
 ghost use Rattle.aplc_crun.specs.declared.code.Node.TheVariants as node;
-ghost use Rattle.aplc_crun.specs.Flat.{flat_of, layout_of, flow_of, with_int, with_buf, go_to, make_cells, free_cells, free_found, write_cell, put_text, put_number, put_character, leave_to, none_of, entered, enter, picked, counted, flat_act, act_at, flat_step, TakesMemory, other_buf, IsCellCount, IsCharacter};
+ghost use Rattle.aplc_crun.specs.Flat.{flat_of, layout_of, flow_of, with_int, with_buf, go_to, make_cells, free_cells, free_found, write_cell, put_text, put_number, put_character, leave_to, none_of, entered, enter, counted, flat_act, act_at, flat_step, TakesMemory, other_buf, IsCellCount, IsCharacter};
 ghost use Rattle.aplc_crun.specs.Pausing.{taken, MemoryIsDue};
 
 use crate::arith::checked_value;
-use crate::code::{Choice, Entry, Laid, Node};
+use crate::choices::Choices;
+use crate::code::{Entry, Laid, Node};
 use crate::eval::{eval, named, read};
 use crate::live::{Frame, Live, Verdict};
 use crate::print::{put_char, put_padded, width_of};
-use aplc_cprof::{Buf, CExpr, Checked, Int, StuckCause};
+use crate::term::Term;
+use aplc_cprof::{Buf, Checked, Int, StuckCause};
 use aplc_scalar::FaultKind;
 use std::alloc::{AllocError, Global};
 
-fn put_int(live: &mut Live, x: Int, v: i64, next: usize) -> Verdict
+/// Gives a whole variable a number.
+#[inline]
+pub fn assign(live: &mut Live, x: Int, v: i64)
     ensures steps { live.new.steps ≡ live.old.steps }
-    ensures went { flow_of result (flat_of live.new) ≡ go_to next (with_int x v (flat_of live.old)) }
+    ensures assigned { flat_of live.new ≡ with_int x v (flat_of live.old) }
 {
     match x {
         Int::Local(n) => {
@@ -34,6 +37,13 @@ fn put_int(live: &mut Live, x: Int, v: i64, next: usize) -> Verdict
             }
         }
     }
+}
+
+fn put_int(live: &mut Live, x: Int, v: i64, next: usize) -> Verdict
+    ensures steps { live.new.steps ≡ live.old.steps }
+    ensures went { flow_of result (flat_of live.new) ≡ go_to next (with_int x v (flat_of live.old)) }
+{
+    assign(live, x, v);
     live.at = next;
     Verdict::Going
 }
@@ -77,7 +87,7 @@ fn other(q: Option<Buf>, live: &Live) -> Option<usize>
     }
 }
 
-fn set_cell(laid: &Laid, live: &mut Live, p: Buf, e: &CExpr, g: &CExpr, next: usize) -> Verdict
+fn set_cell(laid: &Laid, live: &mut Live, p: Buf, e: &Term, g: &Term, next: usize) -> Verdict
     ensures steps { live.new.steps ≡ live.old.steps }
     ensures acted { flow_of result (flat_of live.new) ≡ flat_act (layout_of laid.now) (node.SetCell p e.now g.now next) (flat_of live.old) }
 {
@@ -166,8 +176,8 @@ fn check(
     live: &mut Live,
     x: Int,
     op: Checked,
-    e: &CExpr,
-    g: &CExpr,
+    e: &Term,
+    g: &Term,
     next: usize,
 ) -> Verdict
     ensures steps { live.new.steps ≡ live.old.steps }
@@ -201,7 +211,7 @@ fn number(live: &mut Live, v: i64, width: i64, next: usize) -> Verdict
     Verdict::Going
 }
 
-fn put_num(laid: &Laid, live: &mut Live, e: &CExpr, g: &CExpr, next: usize) -> Verdict
+fn put_num(laid: &Laid, live: &mut Live, e: &Term, g: &Term, next: usize) -> Verdict
     ensures steps { live.new.steps ≡ live.old.steps }
     ensures acted { flow_of result (flat_of live.new) ≡ flat_act (layout_of laid.now) (node.PutNum e.now g.now next) (flat_of live.old) }
 {
@@ -321,19 +331,7 @@ fn call(
     }
 }
 
-/// The place of the arm of a number, or another place.
-fn pick(arms: &[Choice], v: i64, other: usize) -> usize
-    ensures { result ≡ picked v arms.now other }
-{
-    for arm in arms {
-        if arm.value == v {
-            return arm.at;
-        }
-    }
-    other
-}
-
-fn set(laid: &Laid, live: &mut Live, x: Int, e: &CExpr, next: usize) -> Verdict
+fn set(laid: &Laid, live: &mut Live, x: Int, e: &Term, next: usize) -> Verdict
     ensures steps { live.new.steps ≡ live.old.steps }
     ensures acted { flow_of result (flat_of live.new) ≡ flat_act (layout_of laid.now) (node.Set x e.now next) (flat_of live.old) }
 {
@@ -343,7 +341,7 @@ fn set(laid: &Laid, live: &mut Live, x: Int, e: &CExpr, next: usize) -> Verdict
     }
 }
 
-fn width(laid: &Laid, live: &mut Live, x: Int, e: &CExpr, next: usize) -> Verdict
+fn width(laid: &Laid, live: &mut Live, x: Int, e: &Term, next: usize) -> Verdict
     ensures steps { live.new.steps ≡ live.old.steps }
     ensures acted { flow_of result (flat_of live.new) ≡ flat_act (layout_of laid.now) (node.Width x e.now next) (flat_of live.old) }
 {
@@ -353,7 +351,7 @@ fn width(laid: &Laid, live: &mut Live, x: Int, e: &CExpr, next: usize) -> Verdic
     }
 }
 
-fn put_code(laid: &Laid, live: &mut Live, e: &CExpr, next: usize) -> Verdict
+fn put_code(laid: &Laid, live: &mut Live, e: &Term, next: usize) -> Verdict
     ensures steps { live.new.steps ≡ live.old.steps }
     ensures acted { flow_of result (flat_of live.new) ≡ flat_act (layout_of laid.now) (node.PutChar e.now next) (flat_of live.old) }
 {
@@ -368,7 +366,7 @@ fn new_cells(
     laid: &Laid,
     live: &mut Live,
     p: Buf,
-    e: &CExpr,
+    e: &Term,
     next: usize,
 ) -> Result<Verdict, AllocError>
     ensures steps { live.new.steps ≡ live.old.steps }
@@ -382,7 +380,7 @@ fn new_cells(
 }
 
 /// Goes to one place where a condition is 0, and else to another.
-fn branch(laid: &Laid, live: &mut Live, e: &CExpr, met: usize, other: usize) -> Verdict
+fn branch(laid: &Laid, live: &mut Live, e: &Term, met: usize, other: usize) -> Verdict
     ensures steps { live.new.steps ≡ live.old.steps }
     ensures acted { flow_of result (flat_of live.new) ≡ flat_act (layout_of laid.now) (node.If e.now met other) (flat_of live.old) }
 {
@@ -395,14 +393,14 @@ fn branch(laid: &Laid, live: &mut Live, e: &CExpr, met: usize, other: usize) -> 
     }
 }
 
-fn switch(live: &mut Live, x: Int, arms: &[Choice], other: usize, l: &Laid) -> Verdict
+fn switch(live: &mut Live, x: Int, arms: &Choices, other: usize, l: &Laid) -> Verdict
     ensures steps { live.new.steps ≡ live.old.steps }
     ensures acted { flow_of result (flat_of live.new) ≡ flat_act (layout_of l.now) (node.Switch x arms.now other) (flat_of live.old) }
 {
     match read(x, live) {
         Err(cause) => Verdict::Stuck(cause),
         Ok(v) => {
-            live.at = pick(arms, v, other);
+            live.at = arms.pick(v, other);
             Verdict::Going
         }
     }
@@ -446,7 +444,7 @@ fn act(alloc: Global, laid: &Laid, live: &mut Live, node: &Node) -> Result<Verdi
             live.at = *next;
             Ok(Verdict::Going)
         }
-        Node::Switch(x, arms, next) => Ok(switch(live, *x, arms.as_slice(), *next, laid)),
+        Node::Switch(x, arms, next) => Ok(switch(live, *x, arms, *next, laid)),
     }
 }
 

@@ -3,7 +3,7 @@ use Rattle.std.proofs.Common.{◌≡◌, ℕ, List, [], ◌∷◌, ◌++◌, Opt
 use Rattle.std.specs.Prelude.{option_and_then}
 use Rattle.aplc_scalar.specs.declared.function.ScalarFn.{ScalarFn}
 use Rattle.aplc_syntax.specs.declared.tree.Axis.{Axis}
-use Rattle.aplc_syntax.specs.declared.tree.Prim.TheVariants as pr
+use Rattle.aplc_syntax.specs.declared.tree.Primitive.TheVariants as pr
 use Rattle.aplc_syntax.specs.declared.step.Step.{Step}
 use Rattle.aplc_syntax.specs.declared.step.Step.TheVariants as s
 use Rattle.aplc_syntax.specs.declared.step.Waiting.{Waiting}

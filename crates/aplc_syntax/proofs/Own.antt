@@ -2,8 +2,8 @@
 use Rattle.std.proofs.Common.{◌≡◌, ℕ, ◌+◌, ◌≤◌, List, [], ◌∷◌, ◌++◌, ℤ, Option, Some, None, map, refl, sym, ap, ◌∙◌, subst, inl, inr, arith, nat_eq, cond}
 use Rattle.aplc_scalar.specs.declared.function.ScalarFn.TheVariants as f
 use Rattle.aplc_syntax.specs.declared.tree.NameId.{NameId}
-use Rattle.aplc_syntax.specs.declared.tree.Prim.{Prim}
-use Rattle.aplc_syntax.specs.declared.tree.Prim.TheVariants as pr
+use Rattle.aplc_syntax.specs.declared.tree.Primitive.{Primitive}
+use Rattle.aplc_syntax.specs.declared.tree.Primitive.TheVariants as pr
 use Rattle.aplc_syntax.specs.declared.tree.Form.{Form, fold-Form, fold-roll-Form}
 use Rattle.aplc_syntax.specs.declared.tree.Form.TheOpen.{Form-F, Node-F}
 use Rattle.aplc_syntax.specs.declared.tree.Form.TheOpen as o
@@ -61,11 +61,11 @@ node_held p f =
     let n : Node-F Form Node = record { id = record { 0 = p }; place = p; form = f } in
     ap node_ids (sym (rolls-Node' n)) ∙ fold-roll-Node (List ℕ) (List ℕ) form_ids node_step n
 
-mono_held : (g : Prim) (a : Node) → held (v.Mono g a) ≡ node_ids a
+mono_held : (g : Primitive) (a : Node) → held (v.Mono g a) ≡ node_ids a
 unfolding held
 mono_held g a = ap held (sym (v.rolls-Mono g a)) ∙ fold-roll-Form (List ℕ) (List ℕ) form_ids node_step (o.Mono g a)
 
-dyad_held : (g : Prim) (a b : Node) → held (v.Dyad g a b) ≡ node_ids a ++ node_ids b
+dyad_held : (g : Primitive) (a b : Node) → held (v.Dyad g a b) ≡ node_ids a ++ node_ids b
 unfolding held
 dyad_held g a b = ap held (sym (v.rolls-Dyad g a b)) ∙ fold-roll-Form (List ℕ) (List ℕ) form_ids node_step (o.Dyad g a b)
 
@@ -144,10 +144,10 @@ two_count : (q p : ℕ) (f : Form) (a b : Node) → held f ≡ node_ids a ++ nod
 unfolding count
 two_count q p f a b e = count_held q p f (count q a + count q b) (ap (cnt q) e ∙ cnt_append q (node_ids a) (node_ids b))
 
-mono_count : (q p : ℕ) (g : Prim) (a : Node) → count q (node p (v.Mono g a)) ≡ one_at q p + count q a
+mono_count : (q p : ℕ) (g : Primitive) (a : Node) → count q (node p (v.Mono g a)) ≡ one_at q p + count q a
 mono_count q p g a = one_count q p (v.Mono g a) a (mono_held g a)
 
-dyad_count : (q p : ℕ) (g : Prim) (a b : Node) → count q (node p (v.Dyad g a b)) ≡ one_at q p + (count q a + count q b)
+dyad_count : (q p : ℕ) (g : Primitive) (a b : Node) → count q (node p (v.Dyad g a b)) ≡ one_at q p + (count q a + count q b)
 dyad_count q p g a b = two_count q p (v.Dyad g a b) a b (dyad_held g a b)
 
 call1_count : (q p : ℕ) (n : NameId) (b : Node) → count q (node p (v.Call n None (Some b))) ≡ one_at q p + count q b

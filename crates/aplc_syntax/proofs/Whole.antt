@@ -7,7 +7,7 @@ use Rattle.std.specs.Str.{chars}
 use Rattle.aplc_scalar.specs.declared.kind.Kind.TheVariants as kind
 use Rattle.aplc_scalar.specs.declared.function.ScalarFn.TheVariants as f
 use Rattle.aplc_syntax.specs.declared.tree.Axis.TheVariants as ax
-use Rattle.aplc_syntax.specs.declared.tree.Prim.TheVariants as pr
+use Rattle.aplc_syntax.specs.declared.tree.Primitive.TheVariants as pr
 use Rattle.aplc_syntax.specs.declared.tree.Form.TheVariants as v
 use Rattle.aplc_syntax.specs.declared.tree.Function.{Function}
 use Rattle.aplc_syntax.specs.declared.tree.Program.{Program}

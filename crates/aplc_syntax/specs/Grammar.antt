@@ -2,7 +2,7 @@
 use Rattle.std.specs.Prelude.{ℕ, List, [], ◌∷◌, ℤ}
 use Rattle.aplc_scalar.specs.declared.function.ScalarFn.{ScalarFn}
 use Rattle.aplc_syntax.specs.declared.tree.Axis.{Axis}
-use Rattle.aplc_syntax.specs.declared.tree.Prim.{Prim}
+use Rattle.aplc_syntax.specs.declared.tree.Primitive.{Primitive}
 use Rattle.aplc_syntax.specs.declared.word.Arity.TheVariants as arity
 use Rattle.aplc_syntax.specs.declared.word.Role.{Role}
 use Rattle.aplc_syntax.specs.declared.word.Role.TheVariants as role
@@ -27,7 +27,7 @@ pub data X : Type 0 where
 pub data M : Type 0 where
   arith1 : (p : ℕ) → ScalarFn → M
   not1 : (p : ℕ) → M
-  both1 : (p : ℕ) → Prim → M
+  both1 : (p : ℕ) → Primitive → M
   turn1 : (p : ℕ) → Axis → X → M
   reduce : (p : ℕ) → F → (ps : ℕ) → Stroke → Axis → X → M
   call1 : (p n : ℕ) → M
@@ -35,8 +35,8 @@ pub data M : Type 0 where
 -- a function of two arguments
 pub data D : Type 0 where
   scalar2 : (p : ℕ) → F → D
-  both2 : (p : ℕ) → Prim → D
-  dyadic2 : (p : ℕ) → Prim → D
+  both2 : (p : ℕ) → Primitive → D
+  dyadic2 : (p : ℕ) → Primitive → D
   turn2 : (p : ℕ) → Axis → X → D
   copies : (p : ℕ) → Stroke → Axis → X → D
   outer : (pj pd p : ℕ) → F → D

@@ -4,7 +4,7 @@ use Rattle.aplc_scalar.specs.declared.function.ScalarFn.{ScalarFn}
 use Rattle.aplc_scalar.specs.declared.function.ScalarFn.TheVariants as f
 use Rattle.aplc_syntax.specs.declared.tree.Axis.{Axis}
 use Rattle.aplc_syntax.specs.declared.tree.Axis.TheVariants as ax
-use Rattle.aplc_syntax.specs.declared.tree.Prim.TheVariants as pr
+use Rattle.aplc_syntax.specs.declared.tree.Primitive.TheVariants as pr
 use Rattle.aplc_syntax.specs.declared.step.Step.{Step}
 use Rattle.aplc_syntax.specs.declared.step.Step.TheVariants as s
 use Rattle.aplc_syntax.specs.declared.step.Waiting.{Waiting}

@@ -1,7 +1,7 @@
 -- The steps of building that a form stands for, behind those that were sent out before it.
 use Rattle.std.specs.Prelude.{ℕ, List, [], ◌∷◌, ◌++◌}
 use Rattle.aplc_scalar.specs.declared.function.ScalarFn.TheVariants as f
-use Rattle.aplc_syntax.specs.declared.tree.Prim.TheVariants as pr
+use Rattle.aplc_syntax.specs.declared.tree.Primitive.TheVariants as pr
 use Rattle.aplc_syntax.specs.declared.step.Step.{Step}
 use Rattle.aplc_syntax.specs.declared.step.Step.TheVariants as s
 use Rattle.aplc_syntax.specs.declared.step.Waiting.{Waiting}

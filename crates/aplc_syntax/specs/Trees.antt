@@ -5,8 +5,8 @@ use Rattle.aplc_scalar.specs.declared.function.ScalarFn.TheVariants as f
 use Rattle.aplc_syntax.specs.declared.tree.NameId.{NameId}
 use Rattle.aplc_syntax.specs.declared.tree.Axis.{Axis}
 use Rattle.aplc_syntax.specs.declared.tree.Axis.TheVariants as ax
-use Rattle.aplc_syntax.specs.declared.tree.Prim.{Prim}
-use Rattle.aplc_syntax.specs.declared.tree.Prim.TheVariants as pr
+use Rattle.aplc_syntax.specs.declared.tree.Primitive.{Primitive}
+use Rattle.aplc_syntax.specs.declared.tree.Primitive.TheVariants as pr
 use Rattle.aplc_syntax.specs.declared.tree.Form.{Form}
 use Rattle.aplc_syntax.specs.declared.tree.Form.TheVariants as v
 use Rattle.aplc_syntax.specs.declared.tree.Node.{Node}
@@ -35,11 +35,11 @@ abbrev pub axis_of : Axis → X → Axis
 axis_of a no_axis = a
 axis_of a (axis pl pn pr n) = ax.At n
 
-abbrev pub reduction : Stroke → ScalarFn → Axis → Prim
+abbrev pub reduction : Stroke → ScalarFn → Axis → Primitive
 reduction stroke.Slash g a = pr.Reduce g a
 reduction stroke.Backslash g a = pr.Scan g a
 
-abbrev pub copying : Stroke → Axis → Prim
+abbrev pub copying : Stroke → Axis → Primitive
 copying stroke.Slash a = pr.Replicate a
 copying stroke.Backslash a = pr.Expand a
 

@@ -6,7 +6,7 @@ use Rattle.aplc_lex.specs.declared.token.Token.{Token}
 use Rattle.aplc_lex.specs.declared.token.TokenKind.{TokenKind}
 use Rattle.aplc_lex.specs.declared.token.TokenKind.TheVariants as k
 use Rattle.aplc_syntax.specs.declared.tree.Axis.TheVariants as ax
-use Rattle.aplc_syntax.specs.declared.tree.Prim.TheVariants as pr
+use Rattle.aplc_syntax.specs.declared.tree.Primitive.TheVariants as pr
 use Rattle.aplc_syntax.specs.declared.word.Role.TheVariants as role
 use Rattle.aplc_syntax.specs.declared.word.Stroke.TheVariants as stroke
 use Rattle.aplc_syntax.specs.declared.word.Word.{Word}

@@ -10,7 +10,7 @@ ghost use Rattle.aplc_syntax.specs.declared.step.Step.TheVariants as s;
 use crate::items::{Entries, Item, Lists, Pile};
 use crate::step::Step;
 use crate::texts::text_between;
-use crate::tree::{Form, NameId, Node, NodeId, Prim, Statement};
+use crate::tree::{Form, NameId, Node, NodeId, Primitive, Statement};
 use aplc_lex::List;
 use sqlite_items::{Boxed, Items};
 use std::alloc::{AllocError, Global};
@@ -90,7 +90,7 @@ impl Builder {
     }
 
     /// A function of one argument at what was made last.
-    fn mono(&mut self, alloc: Global, place: u32, function: Prim) -> Result<bool, AllocError>
+    fn mono(&mut self, alloc: Global, place: u32, function: Primitive) -> Result<bool, AllocError>
         ensures { IfOk result (λ b. done b (built_of self.new.made self.new.lists) ≡ act [] (s.Mono place function) (map made_of self.old.made) (map entries_of self.old.lists)) }
     {
         let Some(right) = self.made.pop() else {
@@ -103,7 +103,7 @@ impl Builder {
     }
 
     /// A function of two arguments at the last two that were made.
-    fn dyad(&mut self, alloc: Global, place: u32, function: Prim) -> Result<bool, AllocError>
+    fn dyad(&mut self, alloc: Global, place: u32, function: Primitive) -> Result<bool, AllocError>
         ensures { IfOk result (λ b. done b (built_of self.new.made self.new.lists) ≡ act [] (s.Dyad place function) (map made_of self.old.made) (map entries_of self.old.lists)) }
     {
         let Some(right) = self.made.pop() else {

@@ -181,8 +181,8 @@ fn put_entries(
     put(out, "]")
 }
 
-#[cycle(trees)]
-fn put_form(
+/// What stands before the arguments of a form, or the whole of a form without them.
+fn put_head(
     alloc: Global,
     out: &mut String,
     program: &Program,
@@ -190,74 +190,73 @@ fn put_form(
     place: u64,
 ) -> Result<(), Fail> {
     match form {
-        Form::Numbers(numbers) => {
-            put_numbers(alloc, out, numbers.as_slice())?;
-            put_place(alloc, out, place)
+        Form::Numbers(numbers) => put_numbers(alloc, out, numbers.as_slice())?,
+        Form::Text(characters) => put_characters(out, characters.as_slice())?,
+        Form::Name(name) | Form::Call(name, _, _) => put_name(out, program, *name)?,
+        Form::TextInput => put(out, "⍞")?,
+        Form::NumsInput => put(out, "⎕NUMS")?,
+        Form::Mono(prim, _) | Form::Dyad(prim, _, _) => {
+            put(out, format!(in alloc; "{prim:?}")?.as_str())?
         }
-        Form::Text(characters) => {
-            put_characters(out, characters.as_slice())?;
-            put_place(alloc, out, place)
+        Form::Index(_, _) => put(out, "Index")?,
+        Form::Assign(name, _) | Form::AssignAt(name, _, _) => put_assigned(out, program, *name)?,
+        Form::Show(_) => put(out, "⎕")?,
+    }
+    put_place(alloc, out, place)
+}
+
+fn put_assigned(out: &mut String, program: &Program, name: NameId) -> Result<(), Fail> {
+    put(out, "←")?;
+    put_name(out, program, name)
+}
+
+fn is_leaf(form: &Form) -> bool {
+    matches!(
+        form,
+        Form::Numbers(_) | Form::Text(_) | Form::Name(_) | Form::TextInput | Form::NumsInput
+    )
+}
+
+/// The arguments of a form, parted by a blank.
+#[cycle(trees)]
+fn put_form(alloc: Global, out: &mut String, program: &Program, form: &Form) -> Result<(), Fail> {
+    match form {
+        Form::Mono(_, b) | Form::Assign(_, b) | Form::Show(b) => {
+            put_node(alloc, out, program, b.get())
         }
-        Form::Name(name) => {
-            put_name(out, program, *name)?;
-            put_place(alloc, out, place)
-        }
-        Form::TextInput => put(out, format!(in alloc; "⍞@{place}")?.as_str()),
-        Form::NumsInput => put(out, format!(in alloc; "⎕NUMS@{place}")?.as_str()),
-        Form::Mono(prim, b) => {
-            put(out, format!(in alloc; "{prim:?}@{place}(")?.as_str())?;
-            put_node(alloc, out, program, b.get())?;
-            put(out, ")")
-        }
-        Form::Dyad(prim, a, b) => {
-            put(out, format!(in alloc; "{prim:?}@{place}(")?.as_str())?;
+        Form::Dyad(_, a, b) => {
             put_node(alloc, out, program, a.get())?;
             put(out, " ")?;
-            put_node(alloc, out, program, b.get())?;
-            put(out, ")")
+            put_node(alloc, out, program, b.get())
         }
         Form::Index(a, entries) => {
-            put(out, format!(in alloc; "Index@{place}(")?.as_str())?;
             put_node(alloc, out, program, a.get())?;
             put(out, " ")?;
-            put_entries(alloc, out, program, entries.as_slice())?;
-            put(out, ")")
+            put_entries(alloc, out, program, entries.as_slice())
         }
-        Form::Assign(name, b) => {
-            put(out, "←")?;
-            put_name(out, program, *name)?;
-            put(out, format!(in alloc; "@{place}(")?.as_str())?;
-            put_node(alloc, out, program, b.get())?;
-            put(out, ")")
-        }
-        Form::AssignAt(name, entries, b) => {
-            put(out, "←")?;
-            put_name(out, program, *name)?;
-            put(out, format!(in alloc; "@{place}(")?.as_str())?;
+        Form::AssignAt(_, entries, b) => {
             put_entries(alloc, out, program, entries.as_slice())?;
             put(out, " ")?;
-            put_node(alloc, out, program, b.get())?;
-            put(out, ")")
+            put_node(alloc, out, program, b.get())
         }
-        Form::Show(b) => {
-            put(out, format!(in alloc; "⎕@{place}(")?.as_str())?;
-            put_node(alloc, out, program, b.get())?;
-            put(out, ")")
-        }
-        Form::Call(name, a, b) => {
-            put_name(out, program, *name)?;
-            put(out, format!(in alloc; "@{place}(")?.as_str())?;
+        Form::Call(_, a, b) => {
             put_maybe(alloc, out, program, a)?;
             put(out, " ")?;
-            put_maybe(alloc, out, program, b)?;
-            put(out, ")")
+            put_maybe(alloc, out, program, b)
         }
+        _ => Ok(()),
     }
 }
 
 #[cycle(trees)]
 fn put_node(alloc: Global, out: &mut String, program: &Program, node: &Node) -> Result<(), Fail> {
-    put_form(alloc, out, program, &node.form, node.place)
+    put_head(alloc, out, program, &node.form, node.place)?;
+    if is_leaf(&node.form) {
+        return Ok(());
+    }
+    put(out, "(")?;
+    put_form(alloc, out, program, &node.form)?;
+    put(out, ")")
 }
 
 fn put_statement(
@@ -362,6 +361,52 @@ fn limits(rt: HostRuntime) -> Result<(), Fail> {
     assert_eq!(rt;
         answer(alloc, b"\xe2\x88\x87MAIN\n\xff\n\xe2\x88\x87\n")?.as_str(),
         "1 at 8"
+    );
+    Ok(())
+}
+
+/// The tree of 128 numbers `1` parted by `+`, the first of which stands at byte 8.
+fn tree_of_ones(alloc: Global) -> Result<String, Fail> {
+    let mut out = String::from_str(alloc, "d ")?;
+    for i in 0u64..127 {
+        let place = 8 + 2 * i;
+        put(
+            &mut out,
+            format!(in alloc; "Scalar(Add)@{}(1@{place} ", place + 1)?.as_str(),
+        )?;
+    }
+    put(&mut out, "1@262")?;
+    for _ in 0..127 {
+        put(&mut out, ")")?;
+    }
+    Ok(out)
+}
+
+/// 255 nodes are not too many.
+#[test]
+fn most_nodes(rt: HostRuntime) -> Result<(), Fail> {
+    let alloc = rt.alloc();
+    let more = times(alloc, "1+", 127)?;
+    let most = framed(alloc, format!(in alloc; "{more}1")?.as_str())?;
+    let expected = tree_of_ones(alloc)?;
+    assert_eq!(rt;
+        answer(alloc, most.as_str().as_bytes())?.as_str(),
+        expected.as_str()
+    );
+    Ok(())
+}
+
+/// A comment makes a source of 262,144 bytes.
+#[test]
+fn most_bytes(rt: HostRuntime) -> Result<(), Fail> {
+    let alloc = rt.alloc();
+    let row = framed(alloc, "2+3×4⍝")?;
+    let filler = times(alloc, "a", 262_144usize.saturating_sub(row.len()))?;
+    let source = framed(alloc, format!(in alloc; "2+3×4⍝{filler}")?.as_str())?;
+    assert_eq!(rt; source.len(), 262_144);
+    assert_eq!(rt;
+        answer(alloc, source.as_str().as_bytes())?.as_str(),
+        "d Scalar(Add)@9(2@8 Scalar(Mul)@11(3@10 4@13))"
     );
     Ok(())
 }

@@ -32,5 +32,6 @@ pub use aplc_lex::{List, Refusal, Stop};
 pub use laws::{one_program, one_statement};
 pub use parsing::parse;
 pub use tree::{
-    Axis, Form, Function, Line, NameId, Named, Node, NodeId, Prim, Program, Statement, Var,
+    Axis, Form, Function, Line, NameId, Named, Node, NodeId, Primitive as Prim, Program, Statement,
+    Var,
 };

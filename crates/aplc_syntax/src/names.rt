@@ -7,7 +7,7 @@ ghost use Rattle.aplc_lex.specs.declared.token.Token.{Token as TokenOf};
 ghost use Rattle.aplc_syntax.specs.Words.{with_name, number_of, names_in, with_token, kind_of, words, sign};
 ghost use Rattle.aplc_syntax.specs.Numbers.{AreLinked, read_out};
 
-use crate::tree::{Axis, Prim};
+use crate::tree::{Axis, Primitive};
 use crate::word::{Role, Stroke, Word, WordKind};
 use aplc_lex::{List, Token, TokenKind};
 use aplc_scalar::ScalarFn;
@@ -37,13 +37,13 @@ fn sign(c: char) -> WordKind
         '⍲' => WordKind::Compare(ScalarFn::Nand),
         '⍱' => WordKind::Compare(ScalarFn::Nor),
         '~' => WordKind::Not,
-        '⍴' => WordKind::Both(Prim::Shape),
-        ',' => WordKind::Both(Prim::Ravel),
-        '⍳' => WordKind::Both(Prim::Iota),
-        '⍉' => WordKind::Both(Prim::Transpose),
-        '↑' => WordKind::Dyadic(Prim::Take),
-        '↓' => WordKind::Dyadic(Prim::Drop),
-        '∊' => WordKind::Dyadic(Prim::Member),
+        '⍴' => WordKind::Both(Primitive::Shape),
+        ',' => WordKind::Both(Primitive::Ravel),
+        '⍳' => WordKind::Both(Primitive::Iota),
+        '⍉' => WordKind::Both(Primitive::Transpose),
+        '↑' => WordKind::Dyadic(Primitive::Take),
+        '↓' => WordKind::Dyadic(Primitive::Drop),
+        '∊' => WordKind::Dyadic(Primitive::Member),
         '⌽' => WordKind::Turn(Axis::Last),
         '⊖' => WordKind::Turn(Axis::First),
         '/' => WordKind::Stroke(Stroke::Slash, Axis::Last),

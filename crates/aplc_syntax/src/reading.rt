@@ -44,26 +44,26 @@ ghost use Rattle.aplc_syntax.specs.Seen.{IsReading, taken, pending, items_of};
 
 use crate::stack::Stack;
 use crate::step::{Along, Inner, Mode, Step, Target, Waiting};
-use crate::tree::{Axis, Prim};
+use crate::tree::{Axis, Primitive};
 use crate::word::{Arity, Role, Stroke, Word, WordKind};
 use aplc_scalar::ScalarFn;
 use std::alloc::{AllocError, Global};
 
-fn reduction(stroke: Stroke, f: ScalarFn, axis: Axis) -> Prim
+fn reduction(stroke: Stroke, f: ScalarFn, axis: Axis) -> Primitive
     ensures { result ≡ reduction stroke f axis }
 {
     match stroke {
-        Stroke::Slash => Prim::Reduce(f, axis),
-        Stroke::Backslash => Prim::Scan(f, axis),
+        Stroke::Slash => Primitive::Reduce(f, axis),
+        Stroke::Backslash => Primitive::Scan(f, axis),
     }
 }
 
-fn copying(stroke: Stroke, axis: Axis) -> Prim
+fn copying(stroke: Stroke, axis: Axis) -> Primitive
     ensures { result ≡ copying stroke axis }
 {
     match stroke {
-        Stroke::Slash => Prim::Replicate(axis),
-        Stroke::Backslash => Prim::Expand(axis),
+        Stroke::Slash => Primitive::Replicate(axis),
+        Stroke::Backslash => Primitive::Expand(axis),
     }
 }
 
@@ -72,8 +72,8 @@ fn along(function: Along, axis: Axis) -> Step
     ensures { result ≡ along function axis }
 {
     match function {
-        Along::Turn1(p) => Step::Mono(p, Prim::Reverse(axis)),
-        Along::Turn2(p) => Step::Dyad(p, Prim::Reverse(axis)),
+        Along::Turn1(p) => Step::Mono(p, Primitive::Reverse(axis)),
+        Along::Turn2(p) => Step::Dyad(p, Primitive::Reverse(axis)),
         Along::Reduce(p, f, stroke) => Step::Mono(p, reduction(stroke, f, axis)),
         Along::Copies(p, stroke) => Step::Dyad(p, copying(stroke, axis)),
     }
@@ -173,7 +173,7 @@ impl Reader {
             WordKind::Name(role, n) => self.want_name(role, n, p),
             WordKind::Arith(f) => Ok(Some(Mode::Scalar(p, f))),
             WordKind::Compare(f) => Ok(Some(Mode::Compare(p, f))),
-            WordKind::Not => self.wait(Step::Mono(p, Prim::Scalar(ScalarFn::Not))),
+            WordKind::Not => self.wait(Step::Mono(p, Primitive::Scalar(ScalarFn::Not))),
             WordKind::Both(f) => self.wait(Step::Mono(p, f)),
             WordKind::Turn(axis) => Ok(Some(Mode::Along(Along::Turn1(p), axis))),
             WordKind::Open => {
@@ -257,7 +257,7 @@ impl Reader {
                 Along::Reduce(p, f, stroke),
                 axis,
             ))),
-            _ => self.apply_want(Step::Mono(p, Prim::Scalar(f)), x, q),
+            _ => self.apply_want(Step::Mono(p, Primitive::Scalar(f)), x, q),
         }
     }
 
@@ -273,7 +273,7 @@ impl Reader {
     {
         match x {
             WordKind::Dot => Ok(Some(Mode::Dot(p, f))),
-            _ => self.apply_want(Step::Dyad(p, Prim::Scalar(f)), x, q),
+            _ => self.apply_want(Step::Dyad(p, Primitive::Scalar(f)), x, q),
         }
     }
 
@@ -282,8 +282,8 @@ impl Reader {
         ensures { IfOk result (λ m. taken m self.new.ops self.new.out.items ≡ product x p f self.old.ops self.old.out.items) }
     {
         match x {
-            WordKind::Arith(g) => self.wait(Step::Dyad(p, Prim::Inner(f, g))),
-            WordKind::Compare(g) => self.wait(Step::Dyad(p, Prim::Inner(f, g))),
+            WordKind::Arith(g) => self.wait(Step::Dyad(p, Primitive::Inner(f, g))),
+            WordKind::Compare(g) => self.wait(Step::Dyad(p, Primitive::Inner(f, g))),
             _ => Ok(None),
         }
     }
@@ -293,8 +293,8 @@ impl Reader {
         ensures { IfOk result (λ m. taken m self.new.ops self.new.out.items ≡ pairs x p self.old.ops self.old.out.items) }
     {
         match x {
-            WordKind::Arith(f) => self.wait(Step::Dyad(p, Prim::Outer(f))),
-            WordKind::Compare(f) => self.wait(Step::Dyad(p, Prim::Outer(f))),
+            WordKind::Arith(f) => self.wait(Step::Dyad(p, Primitive::Outer(f))),
+            WordKind::Compare(f) => self.wait(Step::Dyad(p, Primitive::Outer(f))),
             _ => Ok(None),
         }
     }

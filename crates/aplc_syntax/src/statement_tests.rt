@@ -3,7 +3,7 @@
 
 use crate::statement::statement;
 use crate::texts::undoubled;
-use crate::tree::{Form, Node, Prim, Statement};
+use crate::tree::{Form, Node, Primitive, Statement};
 use crate::word::{Arity, Role, Word, WordKind};
 use crate::{Refusal, Stop};
 use aplc_scalar::ScalarFn;
@@ -120,7 +120,7 @@ fn sum_of_an_element(rt: HostRuntime) -> Result<(), Fail> {
     ];
     let holds = match statement(rt.alloc(), &TEXT, &words)? {
         Statement::Display(node) => match &node.form {
-            Form::Dyad(Prim::Scalar(ScalarFn::Add), left, right) => {
+            Form::Dyad(Primitive::Scalar(ScalarFn::Add), left, right) => {
                 node.place == 5 && is_element(left.get()) && is_numbers(right.get(), 6, &[2])
             }
             _ => false,

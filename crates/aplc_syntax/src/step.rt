@@ -1,7 +1,7 @@
 //! What reading a statement from the left needs: what it waits for, and the steps that build the tree.
 //! They must not hold trees, and each is a few words long.
 
-use crate::tree::{Axis, Prim};
+use crate::tree::{Axis, Primitive};
 use crate::word::Stroke;
 use aplc_scalar::ScalarFn;
 
@@ -17,8 +17,8 @@ pub enum Step {
     Name(u32, u32),
     TextInput(u32),
     NumsInput(u32),
-    Mono(u32, Prim),
-    Dyad(u32, Prim),
+    Mono(u32, Primitive),
+    Dyad(u32, Primitive),
     Call0(u32, u32),
     Call1(u32, u32),
     Call2(u32, u32),

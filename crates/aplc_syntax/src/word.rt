@@ -1,7 +1,7 @@
 //! Tokens as the grammar sees them.
 //! They must not hold the text; of a name they have the number alone. Places fit in 32 bits, as texts are short.
 
-use crate::tree::{Axis, Prim};
+use crate::tree::{Axis, Primitive};
 use aplc_scalar::ScalarFn;
 
 /// How many arguments a function takes.
@@ -51,9 +51,9 @@ pub enum WordKind {
     /// `~`, which takes one argument alone.
     Not,
     /// Another primitive of one argument or two.
-    Both(Prim),
+    Both(Primitive),
     /// Another primitive of two arguments alone.
-    Dyadic(Prim),
+    Dyadic(Primitive),
     /// `⌽` or `⊖`, with the axis that it has where none is named.
     Turn(Axis),
     /// A stroke, with the axis that it has where none is named.

@@ -1,0 +1,164 @@
+-- The literals of a program have no more elements than its text has bytes.
+use Rattle.std.proofs.Common.{◌≡◌, ◌∙◌, ap, sym, refl, ℕ, zero, suc, ◌+◌, ◌-◌, ◌*◌, ◌<◌, ◌≤◌, ◌&&◌, List, [], ◌∷◌, length, take, drop, ℤ, Option, Some, None, Bool, true, false, if◌then◌else◌, arith, nat_eq}
+use Rattle.std.specs.Prelude.{map, sum}
+use Rattle.std.specs.Str.{chars, continuation_len, lead_bits, chars_after}
+use Rattle.std.proofs.lemmas.List.Sums.{sum_by-cons}
+use Rattle.aplc_lex.specs.Tokens.{Rise}
+use Rattle.aplc_lex.specs.declared.token.Token.{Token}
+use Rattle.aplc_lex.specs.declared.token.TokenKind.{TokenKind}
+use Rattle.aplc_lex.specs.declared.token.TokenKind.TheVariants as k
+use Rattle.aplc_syntax.specs.declared.tree.NameId.{NameId}
+use Rattle.aplc_syntax.specs.declared.tree.Node.{Node}
+use Rattle.aplc_syntax.specs.declared.tree.Form.{Form, fold-Form}
+use Rattle.aplc_syntax.specs.declared.tree.Form.TheVariants as v
+use Rattle.aplc_syntax.specs.declared.tree.Form.TheOpen.{Form-F}
+use Rattle.aplc_syntax.specs.declared.tree.Form.TheFolds.{fold-roll-Form, fold_out-Node}
+use Rattle.aplc_syntax.specs.declared.tree.Statement.{Statement}
+use Rattle.aplc_syntax.specs.declared.tree.Statement.TheVariants as st
+use Rattle.aplc_syntax.specs.declared.tree.Function.{Function}
+use Rattle.aplc_syntax.specs.declared.tree.Line.{Line}
+use Rattle.aplc_syntax.specs.declared.tree.Program.{Program}
+use Rattle.aplc_syntax.specs.Words.{word_of, names_in, kind_of, slice, undoubled, text_between}
+use Rattle.aplc_syntax.specs.Trees.{node}
+use Rattle.aplc_syntax.proofs.Spans.{tokens_rise}
+use Rattle.aplc_names.specs.Literals.{added, form_elements, elements_step, elements_in, statement_elements, line_elements, function_elements, elements}
+use Rattle.aplc_names.specs.Programs.{IsParsed}
+use Rattle.aplc_names.proofs.Symbols.{sign_weight}
+use Rattle.aplc_names.proofs.Weights.{Scale, IsEven, numbers_weight, optional_weight, entries_weight, statement_weight, lines_weight, functions_weight, weigh_program, kind_weight, weight}
+
+abbrev scale : Scale
+scale = record { number_weight = λ x. 1; text_weight = λ cs. length cs; name_weight = λ n. 0; node_weight = λ n. elements_in n }
+
+-- ---- Forms
+
+abbrev held : Form → ℕ
+held x = fold-Form ℕ ℕ form_elements elements_step x
+
+count : (p : ℕ) (x : Form) (n : ℕ) → held x ≡ n → elements_in (node p x) ≡ n
+count p x n e = fold_out-Node ℕ ℕ form_elements elements_step (node p x) ∙ e
+
+same_length : (xs : List ℤ) → length xs ≡ numbers_weight scale xs
+same_length [] = refl
+same_length (x ∷ xs) = let h = same_length xs in omega arith
+
+entries_same : (f : Option Node → Option ℕ) (xs : List (Option Node)) → f None ≡ None → ((n : Node) → f (Some n) ≡ Some (elements_in n)) → added (map f xs) ≡ entries_weight scale xs
+entries_same f [] h i = refl
+entries_same f (None ∷ xs) h i = let e = ap (λ x. added (x ∷ map f xs)) h in let j = entries_same f xs h i in omega arith
+entries_same f (Some n ∷ xs) h i = let e = ap (λ x. added (x ∷ map f xs)) (i n) in let j = entries_same f xs h i in omega arith
+
+of_index : (p : ℕ) (a : Node) (xs : List (Option Node)) (f : Option Node → Option ℕ) → f None ≡ None → ((n : Node) → f (Some n) ≡ Some (elements_in n)) → held (v.Index a xs) ≡ elements_in a + added (map f xs)
+    → elements_in (node p (v.Index a xs)) ≤ elements_in a + entries_weight scale xs
+of_index p a xs f h i j = let e = count p (v.Index a xs) (elements_in a + added (map f xs)) j in let t = entries_same f xs h i in omega arith
+
+of_assign_at : (p : ℕ) (n : NameId) (xs : List (Option Node)) (a : Node) (f : Option Node → Option ℕ) → f None ≡ None → ((m : Node) → f (Some m) ≡ Some (elements_in m)) → held (v.AssignAt n xs a) ≡ added (map f xs) + elements_in a
+    → elements_in (node p (v.AssignAt n xs a)) ≤ 0 + (entries_weight scale xs + elements_in a)
+of_assign_at p n xs a f h i j = let e = count p (v.AssignAt n xs a) (added (map f xs) + elements_in a) j in let t = entries_same f xs h i in omega arith
+
+of_call : (p : ℕ) (n : NameId) (a b : Option Node) → elements_in (node p (v.Call n a b)) ≤ 0 + (optional_weight scale a + optional_weight scale b)
+of_call p n None None = let e = count p (v.Call n None None) 0 (ap held (sym (v.rolls-Call n None None)) ∙ fold-roll-Form ℕ ℕ form_elements elements_step (Form-F.Call n None None)) in omega arith
+of_call p n None (Some b) = let e = count p (v.Call n None (Some b)) (elements_in b + 0) (ap held (sym (v.rolls-Call n None (Some b))) ∙ fold-roll-Form ℕ ℕ form_elements elements_step (Form-F.Call n None (Some b))) in omega arith
+of_call p n (Some a) None = let e = count p (v.Call n (Some a) None) (elements_in a + 0) (ap held (sym (v.rolls-Call n (Some a) None)) ∙ fold-roll-Form ℕ ℕ form_elements elements_step (Form-F.Call n (Some a) None)) in omega arith
+of_call p n (Some a) (Some b) = let e = count p (v.Call n (Some a) (Some b)) (elements_in a + (elements_in b + 0)) (ap held (sym (v.rolls-Call n (Some a) (Some b))) ∙ fold-roll-Form ℕ ℕ form_elements elements_step (Form-F.Call n (Some a) (Some b))) in omega arith
+
+even : IsEven scale
+even = record {
+  of_numbers = λ p xs. (let e = count p (v.Numbers xs) (length xs) (ap held (sym (v.rolls-Numbers xs)) ∙ fold-roll-Form ℕ ℕ form_elements elements_step (Form-F.Numbers xs)) in let s = same_length xs in omega arith);
+  of_text = λ p cs. (let e = count p (v.Text cs) (length cs) (ap held (sym (v.rolls-Text cs)) ∙ fold-roll-Form ℕ ℕ form_elements elements_step (Form-F.Text cs)) in omega arith);
+  of_name = λ p n. (let e = count p (v.Name n) 0 (ap held (sym (v.rolls-Name n)) ∙ fold-roll-Form ℕ ℕ form_elements elements_step (Form-F.Name n)) in omega arith);
+  of_text_input = λ p. (let e = count p v.TextInput 0 (ap held (sym v.rolls-TextInput) ∙ fold-roll-Form ℕ ℕ form_elements elements_step Form-F.TextInput) in omega arith);
+  of_nums_input = λ p. (let e = count p v.NumsInput 0 (ap held (sym v.rolls-NumsInput) ∙ fold-roll-Form ℕ ℕ form_elements elements_step Form-F.NumsInput) in omega arith);
+  of_mono = λ p f a. (let e = count p (v.Mono f a) (elements_in a) (ap held (sym (v.rolls-Mono f a)) ∙ fold-roll-Form ℕ ℕ form_elements elements_step (Form-F.Mono f a)) in omega arith);
+  of_dyad = λ p f a b. (let e = count p (v.Dyad f a b) (elements_in a + elements_in b) (ap held (sym (v.rolls-Dyad f a b)) ∙ fold-roll-Form ℕ ℕ form_elements elements_step (Form-F.Dyad f a b)) in omega arith);
+  of_index = λ p a xs. of_index p a xs _ refl (λ n. refl) (ap held (sym (v.rolls-Index a xs)) ∙ fold-roll-Form ℕ ℕ form_elements elements_step (Form-F.Index a xs));
+  of_assign = λ p n a. (let e = count p (v.Assign n a) (elements_in a) (ap held (sym (v.rolls-Assign n a)) ∙ fold-roll-Form ℕ ℕ form_elements elements_step (Form-F.Assign n a)) in omega arith);
+  of_assign_at = λ p n xs a. of_assign_at p n xs a _ refl (λ m. refl) (ap held (sym (v.rolls-AssignAt n xs a)) ∙ fold-roll-Form ℕ ℕ form_elements elements_step (Form-F.AssignAt n xs a));
+  of_show = λ p a. (let e = count p (v.Show a) (elements_in a) (ap held (sym (v.rolls-Show a)) ∙ fold-roll-Form ℕ ℕ form_elements elements_step (Form-F.Show a)) in omega arith);
+  of_call = of_call;
+}
+
+-- ---- Texts
+
+short_slice : (n : ℕ) (xs : List ℕ) → length (take n xs) ≤ n
+short_slice zero [] = omega arith
+short_slice zero (x ∷ xs) = omega arith
+short_slice (suc n) [] = omega arith
+short_slice (suc n) (x ∷ xs) = let h = short_slice n xs in omega arith
+
+fewer_after : (n c : ℕ) (bs : List ℕ) → length (chars_after n c bs) ≤ 1 + length bs
+fewer_after zero c [] = omega arith
+fewer_after zero c (b ∷ bs) = let h = fewer_after (continuation_len b) (lead_bits b) bs in omega arith
+fewer_after (suc n) c [] = omega arith
+fewer_after (suc n) c (b ∷ bs) = let h = fewer_after n (c * 64 + (b - 128)) bs in omega arith
+
+fewer_chars : (bs : List ℕ) → length (chars bs) ≤ length bs
+unfolding chars
+fewer_chars [] = omega arith
+fewer_chars (b ∷ bs) = let h = fewer_after (continuation_len b) (lead_bits b) bs in omega arith
+
+fewer_undoubled : (cs : List ℕ) → length (undoubled cs) ≤ length cs
+fewer_undoubled [] = omega arith
+fewer_undoubled (c ∷ []) = omega arith
+fewer_undoubled (c ∷ d ∷ cs) = pick (nat_eq c 39 && nat_eq d 39) (fewer_undoubled cs) (fewer_undoubled (d ∷ cs))
+  where
+    pick : (t : Bool) → length (undoubled cs) ≤ length cs → length (undoubled (d ∷ cs)) ≤ length (d ∷ cs) → length (if t then c ∷ undoubled cs else c ∷ undoubled (d ∷ cs)) ≤ length (c ∷ d ∷ cs)
+    pick true h i = omega arith
+    pick false h i = omega arith
+
+-- a text has no more characters than bytes
+fewer_between : (text : List ℕ) (p to : ℕ) → length (text_between text p to) ≤ to - p
+fewer_between text p to =
+    let a = fewer_undoubled (chars (slice text (p + 1) (to - 1))) in
+    let b = fewer_chars (slice text (p + 1) (to - 1)) in
+    let c = short_slice (to - 1 - (p + 1)) (drop (p + 1) text) in
+    omega arith
+
+-- ---- Words
+
+within_span : (text : List ℕ) (ns : List (List ℕ)) (t : Token) (j : TokenKind) → t.span.from < t.span.to → t.span.from + kind_weight scale text t.span.from (kind_of text ns t j) ≤ t.span.to
+within_span text ns t k.Name l = omega arith
+within_span text ns t (k.Number x) l = omega arith
+within_span text ns t k.Text l = let h = fewer_between text t.span.from t.span.to in omega arith
+within_span text ns t k.NumsInput l = omega arith
+within_span text ns t (k.Symbol c) l = let h = sign_weight scale text t.span.from c in omega arith
+within_span text ns t k.LineEnd l = omega arith
+
+within_bytes : (text : List ℕ) (ns : List (List ℕ)) (p q : ℕ) (ts : List Token) → Rise p ts q → p + weight scale text (map (word_of text ns) ts) ≤ q
+within_bytes text ns p q [] r = omega (arith, r)
+within_bytes text ns p q (t ∷ ts) r =
+    let a : p ≤ t.span.from = r.0 in
+    let h = within_span text ns t t.kind r.1 in
+    let i = within_bytes text ns t.span.to q ts r.2 in
+    omega arith
+
+-- ---- Programs
+
+same_statement : (s : Statement) → statement_elements s ≡ statement_weight scale s
+same_statement st.Empty = refl
+same_statement (st.Quiet n) = refl
+same_statement (st.Display n) = refl
+same_statement (st.Branch p n) = refl
+
+lines_elements : (ls : List Line) → sum (map line_elements ls) ≤ lines_weight scale ls
+lines_elements [] = omega arith
+lines_elements (l ∷ ls) =
+    let h = lines_elements ls in
+    let i = same_statement l.statement in
+    let j = sum_by-cons (λ (n : ℕ). n) (line_elements l) (map line_elements ls) in
+    omega arith
+
+functions_elements : (fs : List Function) → sum (map function_elements fs) ≤ functions_weight scale fs
+functions_elements [] = omega arith
+functions_elements (f ∷ fs) =
+    let h = functions_elements fs in
+    let i = lines_elements f.lines in
+    let j = sum_by-cons (λ (n : ℕ). n) (function_elements f) (map function_elements fs) in
+    omega arith
+
+-- a program has at most 262,144 elements in its literals
+pub elements_few : (p : Program) → IsParsed p → elements p ≤ 262144
+elements_few p i =
+    let a = functions_elements p.functions in
+    let b = weigh_program scale even i.text i.tokens p i.program in
+    let c = within_bytes i.text (names_in i.text i.tokens) 0 (length i.text) i.tokens (tokens_rise i.text i.tokens i.cut) in
+    let d : length i.text ≤ 262144 = i.short in
+    omega arith

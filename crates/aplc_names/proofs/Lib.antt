@@ -1,0 +1,17 @@
+pub mod Firsts
+pub mod Equations
+pub mod Minima
+pub mod Lists
+pub mod Reached
+pub mod HiddenNames
+pub mod Resolved
+pub mod Examples
+pub mod Limits
+pub mod Nodes
+pub mod Weights
+pub mod Ranges
+pub mod Symbols
+pub mod InRange
+pub mod Elements
+pub mod Headers
+pub mod Below

@@ -1,0 +1,14 @@
+use Rattle.std.proofs.Common.{arith, subst}
+use Rattle.aplc_names.specs.Firsts.{Somewhere, IsFirstOf}
+use Rattle.aplc_names.specs.Clashes.{IsAssigned}
+use Rattle.aplc_names.proofs.Minima.{none_yet, assigned_more, all_of}
+use Rattle.aplc_names.proofs.clashes.assigned.Goals as goal
+
+pub loop-m-init : goal.loop-m-init
+loop-m-init c = none_yet (IsAssigned c.args.heads.now c.args.outline.now) c.as_slice-m-items.result.now
+
+pub loop-m-preserved : goal.loop-m-preserved
+loop-m-preserved c = assigned_more c.args.heads.now c.args.outline.now c.as_slice-m-items.result.now c.loop-m.m-index _ c.is_assigned-test.result c.loop-m.best c.refused_if-one.result c.earlier-best.result (omega arith) c.is_assigned-test.ensures c.refused_if-one.ensures c.earlier-best.ensures c.loop-m.invariant
+
+pub returns : goal.returns
+returns c = subst (λ xs. IsFirstOf (Somewhere (IsAssigned c.args.heads.now c.args.outline.now) xs) c.loop-m.best) c.as_slice-m-items.ensures (all_of (IsAssigned c.args.heads.now c.args.outline.now) c.as_slice-m-items.result.now c.loop-m.m-index c.loop-m.best (omega arith) c.loop-m.invariant)

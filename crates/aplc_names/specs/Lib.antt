@@ -1,0 +1,11 @@
+pub mod Tables
+pub mod Outlines
+pub mod Scopes
+pub mod Firsts
+pub mod Clashes
+pub mod Graphs
+pub mod Programs
+pub mod Sums
+pub mod Eager
+pub mod Runs
+pub mod Literals

@@ -1,0 +1,55 @@
+-- Programs that the grammar gives, and those among them that nothing refuses.
+use Rattle.std.specs.Prelude.{◌≡◌, ◌<◌, ◌≤◌, ℕ, List, length, All, nat_eq}
+use Rattle.std.specs.List.{IsDistinct}
+use Rattle.aplc_lex.specs.Tokens.{AreTokens}
+use Rattle.aplc_lex.specs.declared.token.Token.{Token}
+use Rattle.aplc_lex.specs.declared.token.Refusal.{Refusal}
+use Rattle.aplc_syntax.specs.Programs.{IsProgramOf, program_ids, statement_ids}
+use Rattle.aplc_syntax.specs.declared.tree.Line.{Line}
+use Rattle.aplc_syntax.specs.declared.tree.Function.{Function}
+use Rattle.aplc_syntax.specs.declared.tree.Named.{Named}
+use Rattle.aplc_syntax.specs.declared.tree.Program.{Program}
+use Rattle.aplc_syntax.specs.declared.tree.Var.{Var}
+use Rattle.aplc_names.specs.declared.outline.Mention.{Mention}
+use Rattle.aplc_names.specs.declared.outline.Outline.{Outline}
+use Rattle.aplc_names.specs.Outlines.{outline, outlines}
+use Rattle.aplc_names.specs.Scopes.{function_names}
+use Rattle.aplc_names.specs.Clashes.{Stands}
+use Rattle.aplc_names.specs.Literals.{HasNumbersInRange, elements}
+
+-- the program of a text of at most 262,144 bytes; each node has a number of its own
+pub record IsParsed (p : Program) : Type 0 where
+  pub text : List ℕ
+  pub tokens : List Token
+  pub short : length text ≤ 262144
+  pub cut : AreTokens text tokens
+  pub program : IsProgramOf text tokens p
+  pub distinct : IsDistinct nat_eq (program_ids p)
+
+-- nothing refuses it
+abbrev pub IsClean : Program → Type 0
+IsClean p = (r : Refusal) → Stands p r → ⊥
+
+-- each function has at most 999 lines
+abbrev pub HasShortFunctions : Program → Type 0
+HasShortFunctions p = All (λ (f : Function). length f.lines ≤ 999) p.functions
+
+-- each statement has at most 256 nodes
+abbrev pub HasSmallStatements : Program → Type 0
+HasSmallStatements p = All (λ (f : Function). All (λ (l : Line). length (statement_ids l.statement) ≤ 256) f.lines) p.functions
+
+-- a name has a number below n
+abbrev pub IsBelow : ℕ → Named → Type 0
+IsBelow n x = x.name.0 < n
+
+-- so have the own name of a function, its local names, labels among them, and the names in its lines
+abbrev pub IsOutlineBelow : ℕ → Outline → Type 0
+IsOutlineBelow n f = IsBelow n f.name × All (IsBelow n) f.locals × All (λ (m : Mention). m.name.0 < n) f.mentions
+
+-- each name that is declared or stands in a function has a number below the number of names
+abbrev pub HasNamesBelow : Program → Type 0
+HasNamesBelow p = All (λ (x : Var). IsBelow (length p.names) x.name) p.vars × All (λ (f : Function). IsOutlineBelow (length p.names) (outline f)) p.functions
+
+-- what a resolved program holds
+abbrev pub IsResolved : Program → List Named → List Outline → Type 0
+IsResolved p hs fs = ∥ IsParsed p ∥₁ × IsClean p × (length p.functions ≤ 999) × HasShortFunctions p × HasSmallStatements p × (hs ≡ function_names (outlines p)) × (fs ≡ outlines p) × HasNumbersInRange p × (length p.names ≤ 262144) × (elements p ≤ 262144) × HasNamesBelow p

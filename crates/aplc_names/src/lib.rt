@@ -1,0 +1,18 @@
+//! What each name of a program is, or the first refusal of a program whose names clash.
+//! It must not know what a program does.
+#![tactic(auto)]
+
+mod bound;
+mod clashes;
+mod graph;
+mod minimum;
+mod outline;
+mod scope;
+mod shadows;
+mod table;
+#[cfg(test)]
+mod tests;
+
+pub use aplc_lex::{Refusal, Stop};
+pub use bound::{Bound, resolve};
+pub use scope::Scope;

@@ -1,13 +1,12 @@
 -- What the whole of a call says of each status.
-use Rattle.std.proofs.Common.{◌≡◌, ◌⊎◌, ◌≤◌, ◌+◌, arith, ℕ, List, [], Option, None, Some, Result, Ok, Err, refl, sym, ap, subst, ◌∙◌, inl, inr, ⊎_elim, false}
-use Rattle.aplc_io.specs.Outside.{SinkState, SourceState, HostState, target_of, Rose, IsMissing, IsFile, sink_with}
+use Rattle.std.proofs.Common.{◌≡◌, ◌⊎◌, ◌≤◌, arith, ℕ, List, [], Option, None, Some, Result, Ok, Err, refl, sym, ap, subst, ◌∙◌, inl, inr, ⊎_elim}
+use Rattle.aplc_io.specs.Outside.{SinkState, HostState, Rose, IsMissing, sink_with}
 use Rattle.aplc_io.specs.Parts.{PartWritten, Tried}
 use Rattle.aplc_io.proofs.Sent.{sink_with-nil}
 use Rattle.aplc_cprof.specs.declared.syntax.CProgram.{CProgram}
-use Rattle.aplc_cprof.specs.declared.syntax.StuckCause.{StuckCause}
 use Rattle.aplc_cprof.specs.Behaviour.{Standing, behaviour, output, IsStuck}
 use Rattle.aplc_cprof.specs.Behaviour as standing
-use Rattle.aplc_cli.specs.declared.refusal.Refusal.{Refusal}
+use Rattle.aplc_lex.specs.declared.token.Refusal.{Refusal}
 use Rattle.aplc_cli.specs.declared.status.Stop.{Stop}
 use Rattle.aplc_cli.specs.declared.status.Stop.TheVariants as stop
 use Rattle.aplc_cli.specs.declared.status.Status.{Status}
@@ -15,11 +14,11 @@ use Rattle.aplc_cli.specs.declared.status.Status.TheVariants as status
 use Rattle.aplc_cli.specs.declared.words.Action.{Action}
 use Rattle.aplc_cli.specs.declared.words.Action.TheVariants as action
 use Rattle.aplc_cli.specs.Words.{Command}
-use Rattle.aplc_cli.specs.Compiled.{refusal, IsCompiled, IsProgramOf, Judged}
+use Rattle.aplc_cli.specs.Compiled.{IsProgramOf, Judged}
 use Rattle.aplc_cli.specs.Came.{Came, came_of, line, status_of, refusal_line}
 use Rattle.aplc_cli.specs.Came as came
-use Rattle.aplc_cli.specs.Carrying.{Streams, IsInput, Shown, InputFailed, OutputFailed, MemoryWanted}
-use Rattle.aplc_cli.specs.Call.{Sent, sent_for, steps_for, shown_for, came_for, Outcome, outcome_for, outcome_of, Outside, streams, host_after, Matter, IsShown, Meets, TextFault, RunFault, Works, Reports, Ends, IsMissingFile, HasReadCause, HasWriteCause, IsUsage, IsRefused, IsAccepted, IsCompiledOnly, IsRun, IsOfRun, KeepsCounts, IsAnswer, CarriesOut, Executes}
+use Rattle.aplc_cli.specs.Carrying.{Streams, Shown}
+use Rattle.aplc_cli.specs.Call.{Sent, sent_for, steps_for, shown_for, came_for, outcome_for, outcome_of, Outside, streams, host_after, Matter, IsShown, Meets, Works, Reports, Ends, IsMissingFile, HasReadCause, HasWriteCause, IsUsage, IsRefused, IsAccepted, IsCompiledOnly, IsRun, IsOfRun, KeepsCounts, IsAnswer, CarriesOut, Executes}
 
 -- ---- Which results have a status
 
@@ -321,7 +320,7 @@ module _ (c : Option Command) (old new : Outside) (e e2 : SinkState) (s : Status
 
   stuck_by : (a : Action) (file text : List ℕ) (p : CProgram) (most : ℕ) (input : List ℕ) → steps_for a ≡ Some most → IsProgramOf a file text p → IsStuck (behaviour p input most) → (m : ℕ) × (a ≡ action.Exec m)
   stuck_by action.Compile file text p most input steps program is = cc
-  stuck_by (action.Run m) file text p most input steps program is = absurd ((program.1.alike input).never_stuck most is)
+  stuck_by (action.Run m) file text p most input steps program is = absurd ((program.behaves.alike input).never_stuck most is)
   stuck_by (action.Exec m) file text p most input steps program is = (m, refl)
 
   pub stuck_is : Ends c old new e e2 s → s ≡ status.Stuck → Executes c

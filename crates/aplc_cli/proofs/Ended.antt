@@ -1,25 +1,23 @@
 -- How the steps of a call make the whole.
-use Rattle.std.proofs.Common.{◌≡◌, ◌⊎◌, ℕ, zero, suc, ◌<◌, ◌≤◌, Bool, false, true, List, [], ◌∷◌, take, length, Option, None, Some, Result, Ok, Err, IfSome, refl, sym, ap, subst, ◌∙◌, inl, inr, arith}
-use Rattle.std.proofs.lemmas.Bool.Decides.{nat_tests}
+use Rattle.std.proofs.Common.{◌≡◌, ℕ, zero, suc, ◌<◌, ◌≤◌, Bool, false, List, [], ◌∷◌, take, length, Option, None, Some, Result, Ok, Err, IfSome, refl, sym, ap, subst, ◌∙◌, inl, inr, arith}
 use Rattle.aplc_io.specs.Outside.{SourceState, SinkState, HostState, Target, target_of, set_to, with, text_begun, text_with, TextNotBegun, IsFile, IsLongFile, FetchFails, sink_with}
 use Rattle.aplc_io.specs.Parts.{PartOfText}
 use Rattle.aplc_cprof.specs.declared.syntax.CProgram.{CProgram}
-use Rattle.aplc_cprof.specs.Behaviour.{Standing, behaviour}
+use Rattle.aplc_cprof.specs.Behaviour.{behaviour}
 use Rattle.aplc_cread.specs.declared.answer.CRefusal.{CRefusal}
-use Rattle.aplc_cread.specs.declared.answer.CStop.{CStop}
 use Rattle.aplc_cread.specs.declared.answer.CStop.TheVariants as c_stop
 use Rattle.aplc_cread.specs.Refusal.{IsAnswer}
-use Rattle.aplc_cli.specs.declared.refusal.Refusal.{Refusal}
+use Rattle.aplc_lex.specs.declared.token.Refusal.{Refusal}
 use Rattle.aplc_cli.specs.declared.status.Stop.{Stop}
 use Rattle.aplc_cli.specs.declared.status.Stop.TheVariants as stop
 use Rattle.aplc_cli.specs.declared.words.Action.{Action}
 use Rattle.aplc_cli.specs.declared.words.Action.TheVariants as action
-use Rattle.aplc_cli.specs.Emitted.{program_code}
-use Rattle.aplc_cli.specs.Compiled.{refusal, IsCompiled, HasReason, IsProgramOf, text_refusal}
+use Rattle.aplc_cli.specs.Sources.{IsRefusedSource, too_long}
+use Rattle.aplc_cli.specs.Compiled.{HasReason, IsProgramOf, text_refusal}
 use Rattle.aplc_cli.specs.Words.{Command}
-use Rattle.aplc_cli.specs.Came.{Came, Compiled, came_of, result_map}
-use Rattle.aplc_cli.specs.Carrying.{Streams, IsInput, Shown, InputFailed, MemoryWanted, OutputFailed, Carried}
-use Rattle.aplc_cli.specs.Call.{Sent, sent_for, steps_for, came_for, shown_for, outcome_of, Outside, streams, host_after, Matter, IsShown, Meets, RunFault, Works, Fetched, Compiles, Made, Sends, PartSent, PartHanded, HandedOver, RanText}
+use Rattle.aplc_cli.specs.Came.{Came, Compiled, result_map}
+use Rattle.aplc_cli.specs.Carrying.{Streams, IsInput, InputFailed, MemoryWanted, OutputFailed, Carried}
+use Rattle.aplc_cli.specs.Call.{Sent, sent_for, steps_for, came_for, shown_for, Outside, streams, host_after, Matter, IsShown, Meets, RunFault, Works, Fetched, Compiles, Made, Sends, PartSent, PartHanded, HandedOver, RanText}
 
 abbrev world : HostState → SourceState → SinkState → Outside
 world h i o = record { host = h; input = i; out = o }
@@ -36,13 +34,17 @@ input_is : (t : Option (List ℕ)) → t ≡ set_to t (input_of t)
 input_is None = refl
 input_is (Some bytes) = refl
 
+-- a program for those calls that have none
+abbrev no_program : CProgram
+no_program = record { tables = []; ints = 0; bufs = 0; functions = [] }
+
 pub unread : (w : Outside) → Meets None w w (Err stop.Usage)
 unread w = record {
   matter = record {
     file = [];
     verdict = None;
     text = [];
-    program = program_code [];
+    program = no_program;
     input = input_of w.input.left;
     is_file = tt;
     judged = tt;
@@ -63,10 +65,6 @@ length-zeros : (n : ℕ) → length (zeros n) ≡ n
 unfolding zeros
 length-zeros zero = refl
 length-zeros (suc n) = ap suc (length-zeros n)
-
-too_long : (file : List ℕ) → 262144 < length file → refusal file ≡ Some record { number = 23; place = 262144 }
-unfolding refusal
-too_long file lt = grind (arith, nat_tests)
 
 -- where the files are not told, some file is as long
 pub long_file : (h : HostState) (name : List ℕ) (limit : ℕ) → IsLongFile h name limit → (file : List ℕ) × IsFile h name file × (limit < length file)
@@ -113,7 +111,7 @@ text_long = record { number = 35; place = 67108864 }
 module _ (name : List ℕ) (h h2 : HostState) where
   pub unfetched : (s : Stop) → Fetched source_long name h h2 (Err s) → Made action.Compile name h h2 (Err s)
   unfetched stop.Usage f = absurd f
-  unfetched (stop.Refused r) f = (f.0, (f.2.0, f.2.1, too_long f.2.0 f.2.2 ∙ ap (λ (x : Refusal). Some x) (sym f.1)))
+  unfetched (stop.Refused r) f = (f.0, (f.2.0, f.2.1, subst (λ x. IsRefusedSource f.2.0 x) (sym f.1) (too_long f.2.2)))
   unfetched stop.ReadFault f = f
   unfetched stop.WriteFault f = absurd f
   unfetched stop.Memory f = f
@@ -121,7 +119,7 @@ module _ (name : List ℕ) (h h2 : HostState) where
   pub made : (file slice : List ℕ) (r : Result (CProgram × List ℕ) Stop) → h2 ≡ h → IsFile h name file → slice ≡ file → Compiles slice r → Made action.Compile name h h2 r
   made file slice (Ok m) same is_file e f = (same, (file, is_file, subst (λ (l : List ℕ). Compiles l (Ok m)) e f))
   made file slice (Err stop.Usage) same is_file e f = absurd f
-  made file slice (Err (stop.Refused r)) same is_file e f = (same, (file, is_file, ap refusal (sym e) ∙ f))
+  made file slice (Err (stop.Refused r)) same is_file e f = (same, (file, is_file, subst (λ (l : List ℕ). IsRefusedSource l r) e f))
   made file slice (Err stop.ReadFault) same is_file e f = absurd f
   made file slice (Err stop.WriteFault) same is_file e f = absurd f
   made file slice (Err stop.Memory) same is_file e f = same
@@ -181,7 +179,7 @@ module _ (name : List ℕ) (a : Action) (h : HostState) (i : SourceState) (o : S
       file = file;
       verdict = Some r;
       text = [];
-      program = program_code [];
+      program = no_program;
       input = input_of i.left;
       is_file = is_file;
       judged = e;

@@ -1,13 +1,7 @@
 mod Causes
+pub mod DigitSteps
 mod Ended
-mod Examples
-mod Formed
 mod Stages
-mod Supported
-pub mod ReadingLines
-pub mod ReadingNumbers
-pub mod ReadingParts
-pub mod ReadingPlace
-pub mod ReadingSpelling
-pub mod Simulation
+pub mod Unbuilt
 mod RunEnds
+pub mod Verdicts

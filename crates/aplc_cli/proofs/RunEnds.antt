@@ -1,34 +1,30 @@
 -- From what the runner says of a run to what carrying a program out comes to.
-use Rattle.std.proofs.Common.{◌≡◌, ◌⊎◌, ℕ, ◌+◌, ◌-◌, ◌<◌, ◌≤◌, Bool, false, true, List, [], ◌++◌, take, length, Option, None, Some, option_map, Result, Ok, Err, refl, sym, ap, subst, ◌∙◌, inl, inr, arith, append-nil, append_assoc, length-append}
-use Rattle.std.specs.Prelude.{IsTrue, ℤ}
+use Rattle.std.proofs.Common.{◌≡◌, ℕ, ◌+◌, ◌-◌, ◌≤◌, Bool, false, true, List, [], ◌++◌, take, length, Option, None, Some, option_map, Ok, Err, refl, sym, ap, subst, ◌∙◌, arith, append-nil, length-append}
+use Rattle.std.specs.Prelude.{IsTrue}
 use Rattle.std.proofs.Math.Seq.{take-append-add}
 use Rattle.aplc_scalar.specs.declared.kind.FaultKind.{FaultKind}
-use Rattle.aplc_io.specs.Outside.{SourceState, SinkState, SourceGives, IsAtEnd, with, set_to, sink_with, Rose}
+use Rattle.aplc_io.specs.Outside.{SourceState, SinkState, with, set_to, sink_with, Rose}
 use Rattle.aplc_io.specs.Parts.{PartWritten}
 use Rattle.aplc_io.proofs.Sent.{with-with}
 use Rattle.aplc_cprof.specs.declared.syntax.CProgram.{CProgram}
 use Rattle.aplc_cprof.specs.declared.syntax.StuckCause.{StuckCause}
 use Rattle.aplc_cprof.specs.Machine.{State, Next, code_of, initial, run}
-use Rattle.aplc_cprof.specs.Machine as machine
 use Rattle.aplc_cprof.specs.Behaviour.{Standing, shown, behaviour, output, IsGoing}
 use Rattle.aplc_cprof.specs.Behaviour as standing
 use Rattle.aplc_cprof.proofs.Same.{machine_of}
 use Rattle.aplc_crun.specs.declared.live.Verdict.{Verdict}
 use Rattle.aplc_crun.specs.declared.live.Verdict.TheVariants as verdict
 use Rattle.aplc_crun.specs.declared.machine.Machine.{Machine}
-use Rattle.aplc_crun.specs.declared.stop.RunStop.{RunStop}
 use Rattle.aplc_crun.specs.declared.stop.RunStop.TheVariants as run_stop
 use Rattle.aplc_crun.specs.Running.{Stands, Comes, next_of, place_name, place_line}
-use Rattle.aplc_crun.specs.Ran.{Went, Unread, Unwritten, Ran, Reads, MayTakeMemory, IsDue}
+use Rattle.aplc_crun.specs.Ran.{Went, Ran, Reads, MayTakeMemory, IsDue}
 use Rattle.aplc_cprof.specs.declared.syntax.CStmt.{CStmt}
-use Rattle.aplc_cli.specs.declared.status.Stop.{Stop}
 use Rattle.aplc_cli.specs.declared.status.Stop.TheVariants as stop
 use Rattle.aplc_cli.specs.declared.status.Ending.TheVariants as ending
-use Rattle.aplc_cli.specs.declared.status.RunEnd.{RunEnd}
 use Rattle.aplc_cli.specs.declared.status.RunEnd.TheVariants as end
 use Rattle.aplc_cli.specs.Came.{Came, came_of, told}
 use Rattle.aplc_cli.specs.Came as came
-use Rattle.aplc_cli.specs.Carrying.{Streams, IsInput, WasRead, Shown, StoodAt, InputFailed, OutputFailed, MemoryWanted, Carries, Carried}
+use Rattle.aplc_cli.specs.Carrying.{Streams, IsInput, WasRead, Shown, StoodAt, Carried}
 
 -- ---- The input that may still come
 

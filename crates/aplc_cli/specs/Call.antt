@@ -3,8 +3,10 @@ use Rattle.std.specs.Prelude.{◌≡◌, ◌⊎◌, ℕ, ◌≤◌, false, true,
 use Rattle.aplc_io.specs.Outside.{SourceState, SinkState, HostState, Target, target_of, Rose, IsFile, FetchFails, IsMissing, set_to, sink_with}
 use Rattle.aplc_io.specs.Parts.{PartWritten, Tried}
 use Rattle.aplc_cprof.specs.declared.syntax.CProgram.{CProgram}
-use Rattle.aplc_cprof.specs.Behaviour.{Standing, behaviour, output}
-use Rattle.aplc_cli.specs.declared.refusal.Refusal.{Refusal}
+use Rattle.aplc_cprof.specs.Behaviour.{Standing, behaviour}
+use Rattle.aplc_lex.specs.declared.token.Refusal.{Refusal}
+use Rattle.aplc_lex.specs.declared.token.Stop.{Stop as LexStop}
+use Rattle.aplc_lex.specs.declared.token.Stop.TheVariants as lex_stop
 use Rattle.aplc_cli.specs.declared.status.Stop.{Stop}
 use Rattle.aplc_cli.specs.declared.status.Stop.TheVariants as stop
 use Rattle.aplc_cli.specs.declared.status.Status.{Status}
@@ -12,7 +14,8 @@ use Rattle.aplc_cli.specs.declared.status.Status.TheVariants as status
 use Rattle.aplc_cli.specs.declared.words.Action.{Action}
 use Rattle.aplc_cli.specs.declared.words.Action.TheVariants as action
 use Rattle.aplc_cli.specs.Words.{Command}
-use Rattle.aplc_cli.specs.Compiled.{refusal, IsCompiled, HasReason, IsProgramOf, Judged}
+use Rattle.aplc_cli.specs.Sources.{IsRefusedSource}
+use Rattle.aplc_cli.specs.Compiled.{IsCompiled, HasReason, IsProgramOf, Judged}
 use Rattle.aplc_cli.specs.Came.{Came, Compiled, came_of, line, status_of, usage_line, refusal_line}
 use Rattle.aplc_cli.specs.Carrying.{Streams, IsInput, Shown, InputFailed, MemoryWanted, OutputFailed, Carried}
 
@@ -187,10 +190,21 @@ Fetched long name old new (Err (stop.Refused r)) = (new ≡ old) × (r ≡ long)
 Fetched long name old new (Err stop.Memory) = new ≡ old
 Fetched long name old new result = ⊥
 
+-- what an error says of a source: its first refusal, or nothing but that memory was wanting
+abbrev pub RefusesSource : List ℕ → LexStop → Type 0
+RefusesSource file (lex_stop.Refused r) = IsRefusedSource file r
+RefusesSource file lex_stop.Memory = Unit {0}
+
+-- the same of the work's own stops
+abbrev pub StopsAt : List ℕ → Stop → Type 0
+StopsAt file (stop.Refused r) = IsRefusedSource file r
+StopsAt file stop.Memory = Unit {0}
+StopsAt file s = ⊥
+
 -- a file that was compiled to a program and its text, or why it was not
 abbrev pub Compiles : List ℕ → Result (CProgram × List ℕ) Stop → Type 0
-Compiles file (Ok made) = (refusal file ≡ None) × IsCompiled file made.1 made.0
-Compiles file (Err (stop.Refused r)) = refusal file ≡ Some r
+Compiles file (Ok made) = IsCompiled file made.1 made.0
+Compiles file (Err (stop.Refused r)) = IsRefusedSource file r
 Compiles file (Err stop.Memory) = Unit {0}
 Compiles file result = ⊥
 

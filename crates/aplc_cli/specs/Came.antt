@@ -1,5 +1,5 @@
 -- What the work of a call comes to, what is said of it on err, and the status.
-use Rattle.std.specs.Prelude.{ℕ, ℤ, nat_eq, ◌||◌, if◌then◌else◌, List, [], ◌++◌, Result, Ok, Err, codes}
+use Rattle.std.specs.Prelude.{ℕ, ℤ, nat_eq, nat_lt, ◌||◌, if◌then◌else◌, List, [], ◌++◌, Result, Ok, Err, codes}
 use Rattle.std.specs.Fmt.{decimal, signed_decimal}
 use Rattle.aplc_scalar.specs.declared.kind.FaultKind.{FaultKind}
 use Rattle.aplc_scalar.specs.declared.kind.FaultKind.TheVariants as fault
@@ -8,7 +8,7 @@ use Rattle.aplc_cprof.specs.declared.syntax.StuckCause.TheVariants as cause
 use Rattle.aplc_cprof.specs.Behaviour.{Standing}
 use Rattle.aplc_cprof.specs.Behaviour as standing
 use Rattle.aplc_crun.specs.Running.{place_name, place_line}
-use Rattle.aplc_cli.specs.declared.refusal.Refusal.{Refusal}
+use Rattle.aplc_lex.specs.declared.token.Refusal.{Refusal}
 use Rattle.aplc_cli.specs.declared.status.Ending.{Ending}
 use Rattle.aplc_cli.specs.declared.status.Ending.TheVariants as ending
 use Rattle.aplc_cli.specs.declared.status.RunEnd.TheVariants as end
@@ -46,13 +46,35 @@ result_map f (Err e) = Err e
 
 -- ---- The line on err
 
+-- the refusals of tokens
+abbrev pub token_word : ℕ → List ℕ
+token_word n =
+    if nat_eq n 1 then codes "UTF8" else (if nat_eq n 2 then codes "CHARACTER" else (if nat_eq n 3 then codes "QUOTE"
+    else (if nat_eq n 4 then codes "NUMBER" else codes "NAME")))
+
+-- those of statements, headers and declarations
+abbrev pub program_word : ℕ → List ℕ
+program_word n =
+    if nat_eq n 6 then codes "HEADER" else (if nat_eq n 7 then codes "FORM" else (if nat_eq n 8 then codes "NESTING"
+    else (if nat_eq n 9 then codes "NODES" else (if nat_eq n 10 then codes "COUNT" else codes "DECLARATION"))))
+
+-- those of names
+abbrev pub name_word : ℕ → List ℕ
+name_word n =
+    if nat_eq n 12 then codes "TWICE" else (if nat_eq n 13 then codes "FUNCTION" else (if nat_eq n 14 then codes "SHADOW"
+    else (if nat_eq n 15 then codes "MAIN" else codes "ASSIGN")))
+
+-- those of files and C texts, and of what is not built
 abbrev pub text_word : ℕ → List ℕ
 text_word n =
     if nat_eq n 30 then codes "PREAMBLE" else (if nat_eq n 31 then codes "BYTE" else (if nat_eq n 32 then codes "FORM"
-    else (if nat_eq n 33 then codes "NAME" else (if nat_eq n 34 then codes "NESTING" else codes "LATER"))))
+    else (if nat_eq n 33 then codes "NAME" else (if nat_eq n 34 then codes "NESTING"
+    else (if nat_eq n 23 || nat_eq n 35 then codes "TOO LONG" else codes "LATER")))))
 
 abbrev pub refusal_word : ℕ → List ℕ
-refusal_word n = if nat_eq n 23 || nat_eq n 35 then codes "TOO LONG" else text_word n
+refusal_word n =
+    if nat_lt n 1 then text_word n else (if nat_lt n 6 then token_word n else (if nat_lt n 12 then program_word n
+    else (if nat_lt n 17 then name_word n else text_word n)))
 
 abbrev pub fault_word : FaultKind → List ℕ
 fault_word fault.Domain = codes "DOMAIN"

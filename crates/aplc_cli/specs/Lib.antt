@@ -1,7 +1,6 @@
-pub mod Source
-pub mod Eager
-pub mod Runs
-pub mod Emitted
+pub mod Digits
+pub mod Later
+pub mod Sources
 pub mod Compiled
 pub mod Words
 pub mod Came

@@ -1,8 +1,8 @@
 -- The words of the command line.
-use Rattle.std.specs.Prelude.{ℕ, ◌+◌, Bool, false, not, nat_eq, nat_lt, ◌&&◌, List, [], ◌∷◌, length, Option, None, Some, option_map, option_and_then, if◌then◌else◌, codes, bytes_eq}
+use Rattle.std.specs.Prelude.{ℕ, ◌+◌, Bool, false, not, nat_eq, nat_lt, ◌&&◌, List, [], ◌∷◌, length, Option, None, Some, option_and_then, if◌then◌else◌, codes, bytes_eq}
 use Rattle.aplc_cli.specs.declared.words.Action.{Action}
 use Rattle.aplc_cli.specs.declared.words.Action.TheVariants as action
-use Rattle.aplc_cli.specs.Source.{magnitude}
+use Rattle.aplc_cli.specs.Digits.{magnitude}
 
 -- what is done with the file of this name
 pub record Command : Type 0 where

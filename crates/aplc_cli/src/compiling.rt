@@ -1,15 +1,20 @@
 //! From the bytes of a source to its program and the bytes of its C text: the stages, one after the other.
 //! It must not know where the bytes come from, nor where the text goes.
 
-ghost use Rattle.std.specs.Prelude.{◌≤◌, length};
+ghost use Rattle.std.specs.Prelude.{◌≡◌, ◌≤◌, true, is_some, length, IfOk, IfErr};
+ghost use Rattle.aplc_names.specs.Sums.{main_tasks};
+ghost use Rattle.aplc_cli.specs.Sources.{IsSource};
+ghost use Rattle.aplc_cli.specs.Compiled.{Behaves};
 ghost use Rattle.aplc_cli.specs.Came.{result_map};
-ghost use Rattle.aplc_cli.specs.Call.{Compiles};
+ghost use Rattle.aplc_cli.specs.Call.{Compiles, StopsAt};
 
-use crate::Refusal;
-use crate::generating::generate;
-use crate::source::{SourceStop, read_source};
+use crate::later::first_later;
+use crate::reading::read_program;
 use crate::status::Stop;
 use aplc_cprof::{CProgram, print};
+use aplc_gen::generate;
+use aplc_lex::Refusal;
+use aplc_names::Bound;
 use std::alloc::Global;
 
 /// The most bytes that a source may have.
@@ -23,19 +28,48 @@ pub struct Compiled {
     pub text: Vec<u8>,
 }
 
+/// The program of a file, all of which is built.
+fn read_built(alloc: Global, file: &[u8]) -> Result<Bound, Stop>
+    requires { length file.now ≤ 262144 }
+    ensures source { IfOk result (λ b. IsSource file.now b) }
+    ensures tasks { IfOk result (λ b. is_some (main_tasks b) ≡ true) }
+    ensures refused { IfErr result (StopsAt file.now) }
+{
+    let bound = match read_program(alloc, file) {
+        Ok(bound) => bound,
+        Err(aplc_names::Stop::Refused(refusal)) => return Err(Stop::Refused(refusal)),
+        Err(aplc_names::Stop::Memory) => return Err(Stop::Memory),
+    };
+    match first_later(bound.program()) {
+        Some(place) => Err(Stop::Refused(Refusal { number: 90, place })),
+        None => Ok(bound),
+    }
+}
+
+/// The C program of a file of at most `SOURCE_LIMIT` bytes, or its refusal.
+fn compile_program(alloc: Global, file: &[u8]) -> Result<CProgram, Stop>
+    requires { length file.now ≤ 262144 }
+    ensures made { IfOk result (Behaves file.now) }
+    ensures refused { IfErr result (StopsAt file.now) }
+{
+    let bound = match read_built(alloc, file) {
+        Ok(bound) => bound,
+        Err(stop) => return Err(stop),
+    };
+    match generate(alloc, bound.program()) {
+        Ok(program) => Ok(program),
+        Err(_) => Err(Stop::Memory),
+    }
+}
+
 /// The program and the C text of a file of at most `SOURCE_LIMIT` bytes, or its refusal.
 pub fn compile(alloc: Global, file: &[u8]) -> Result<Compiled, Stop>
     requires { length file.now ≤ 262144 }
     ensures { Compiles file.now (result_map (λ c. (c.program, c.text.items)) result) }
 {
-    let lines = match read_source(alloc, file) {
-        Ok(lines) => lines,
-        Err(SourceStop::Refused(place)) => return Err(Stop::Refused(Refusal { number: 90, place })),
-        Err(SourceStop::Memory) => return Err(Stop::Memory),
-    };
-    let program = match generate(alloc, lines.as_slice()) {
+    let program = match compile_program(alloc, file) {
         Ok(program) => program,
-        Err(_) => return Err(Stop::Memory),
+        Err(stop) => return Err(stop),
     };
     match print(alloc, &program) {
         Ok(text) => Ok(Compiled { program, text }),

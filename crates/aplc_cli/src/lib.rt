@@ -4,12 +4,15 @@
 
 mod carrying;
 mod compiling;
+mod digits;
 #[cfg(test)]
 mod exec_tests;
-mod generating;
-mod refusal;
+mod later;
+mod laws;
+#[cfg(test)]
+mod limit_tests;
+mod reading;
 mod report;
-mod source;
 mod status;
 mod steps;
 #[cfg(test)]
@@ -17,6 +20,7 @@ mod tests;
 mod top;
 mod words;
 
-pub use refusal::Refusal;
+pub use aplc_lex::Refusal;
+pub use laws::{one_refusal, one_source, source_or_refusal};
 pub use status::Status;
 pub use top::aplc;

@@ -4,7 +4,7 @@
 ghost use Rattle.std.specs.Prelude.{◌≡◌, ◌++◌, codes, Ok, Err, OnOk, OnErr};
 ghost use Rattle.aplc_io.specs.Outside.{sink_with};
 ghost use Rattle.aplc_io.specs.Parts.{PartWritten};
-ghost use Rattle.aplc_cli.specs.Came.{line, status_of, refusal_line, refusal_word, fault_word, cause_word, fault_line, stuck_line, told, result_map};
+ghost use Rattle.aplc_cli.specs.Came.{line, status_of, refusal_line, token_word, program_word, name_word, text_word, refusal_word, fault_word, cause_word, fault_line, stuck_line, told, result_map};
 ghost use Rattle.aplc_cli.specs.Call.{Reports};
 ghost use Rattle.aplc_crun.specs.Running.{place_name, place_line};
 
@@ -18,18 +18,70 @@ use itoa::Buffer;
 const USAGE: &[u8] =
     b"usage: aplc [-o NAME] FILE; aplc --run [--steps M] [--stats] [-o NAME] FILE; aplc --check FILE; aplc --exec [--steps M] [--stats] FILE; aplc --make N\n";
 
-// The word of a refusal's number.
-fn refusal_word(number: u8) -> &'static [u8]
-    ensures { result.now ≡ refusal_word number }
+// The words of refusals: of tokens.
+fn token_word(number: u8) -> &'static [u8]
+    ensures { result.now ≡ token_word number }
 {
     match number {
-        23 | 35 => b"TOO LONG",
+        1 => b"UTF8",
+        2 => b"CHARACTER",
+        3 => b"QUOTE",
+        4 => b"NUMBER",
+        _ => b"NAME",
+    }
+}
+
+// Of statements, headers and declarations.
+fn program_word(number: u8) -> &'static [u8]
+    ensures { result.now ≡ program_word number }
+{
+    match number {
+        6 => b"HEADER",
+        7 => b"FORM",
+        8 => b"NESTING",
+        9 => b"NODES",
+        10 => b"COUNT",
+        _ => b"DECLARATION",
+    }
+}
+
+// Of names.
+fn name_word(number: u8) -> &'static [u8]
+    ensures { result.now ≡ name_word number }
+{
+    match number {
+        12 => b"TWICE",
+        13 => b"FUNCTION",
+        14 => b"SHADOW",
+        15 => b"MAIN",
+        _ => b"ASSIGN",
+    }
+}
+
+// Of files and C texts, and of what is not built.
+fn text_word(number: u8) -> &'static [u8]
+    ensures { result.now ≡ text_word number }
+{
+    match number {
         30 => b"PREAMBLE",
         31 => b"BYTE",
         32 => b"FORM",
         33 => b"NAME",
         34 => b"NESTING",
+        23 | 35 => b"TOO LONG",
         _ => b"LATER",
+    }
+}
+
+// The word of a refusal's number.
+fn refusal_word(number: u8) -> &'static [u8]
+    ensures { result.now ≡ refusal_word number }
+{
+    match number {
+        1..=5 => token_word(number),
+        6..=11 => program_word(number),
+        12..=16 => name_word(number),
+        _ => text_word(number),
     }
 }
 

@@ -4,8 +4,8 @@
 ghost use Rattle.std.specs.Prelude.{◌≡◌};
 ghost use Rattle.aplc_cli.specs.Came.{code_of};
 
-use crate::Refusal;
 use aplc_crun::{Machine, StuckCause};
+use aplc_lex::Refusal;
 use aplc_scalar::FaultKind;
 
 /// How a call of the program ended.

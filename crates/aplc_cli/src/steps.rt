@@ -6,7 +6,6 @@ ghost use Rattle.aplc_io.specs.Outside.{HostState, target_of};
 ghost use Rattle.aplc_cli.specs.Came.{told, result_map};
 ghost use Rattle.aplc_cli.specs.Call.{Outside, Fetched, Made, Sends, RanText};
 
-use crate::Refusal;
 use crate::carrying::carry_out;
 use crate::compiling::{Compiled, SOURCE_LIMIT, compile};
 use crate::status::{Ending, Stop};
@@ -15,6 +14,7 @@ use aplc_cprof::CProgram;
 use aplc_cread::{CStop, read};
 use aplc_crun::Machine;
 use aplc_io::{Failed, FetchFault, Host, Sink, Source, put_all};
+use aplc_lex::Refusal;
 use std::alloc::Global;
 
 /// The most bytes that a C text may have.

@@ -2,7 +2,8 @@
 //! The expected bytes come from the rules of the language and of the C profile.
 
 use super::*;
-use aplc_cprof::{Builder, CExpr, CProgram, CStmt, List, preamble_bytes};
+use aplc_cprof::{Builder, CExpr, CProgram, CStmt, List, preamble_bytes, print};
+use aplc_cread::read;
 use aplc_crun::Machine;
 use aplc_io::{Host, MemHost, MemSink, MemSource};
 use std::alloc::Global;
@@ -71,7 +72,7 @@ fn compiles(rt: HostRuntime) -> Result<(), Fail> {
         ..PLAIN
     };
     let text =
-        b"static void f0(void);\nstatic void f0(void) {\nint64_t v0;\nat(\"MAIN\", 1);\nv0 = 4LL;\nv0 = mul(3LL, v0);\nv0 = add(2LL, v0);\nput_num(v0, 0LL);\nput_char(10LL);\n}\nint main(void) {\nf0();\nreturn 0;\n}\n";
+        b"static void f0(void);\nstatic void f0(void) {\nint64_t v0;\nat(\"MAIN\", 1);\nv0 = mul(3LL, 4LL);\nv0 = add(2LL, v0);\nput_num(v0, 0LL);\nput_char(10LL);\n}\nint main(void) {\nf0();\nreturn 0;\n}\n";
     let done = Answer {
         status: Status::Done,
         text,
@@ -84,68 +85,82 @@ fn compiles(rt: HostRuntime) -> Result<(), Fail> {
         ..PLAIN
     };
     let text =
-        b"static void f0(void);\nstatic void f0(void) {\nint64_t v0;\nat(\"MAIN\", 2);\nv0 = 0LL;\nv0 = sub((0LL - 7LL), v0);\nput_num(v0, 0LL);\nput_char(10LL);\n}\nint main(void) {\nf0();\nreturn 0;\n}\n";
+        b"static void f0(void);\nstatic void f0(void) {\nint64_t v0;\nat(\"MAIN\", 2);\nv0 = sub((0LL - 7LL), 0LL);\nput_num(v0, 0LL);\nput_char(10LL);\n}\nint main(void) {\nf0();\nreturn 0;\n}\n";
     check(&rt, rt.alloc(), &case, &Answer { text, ..done })
+}
+
+// What the stages of the reader refuse, one after the other, and what is not built yet.
+const REFUSED: [(&str, &[u8]); 20] = [
+    ("", b"REFUSED 15 MAIN AT 0\n"),
+    ("∇MAIN\n'abc\n∇\n", b"REFUSED 3 QUOTE AT 8\n"),
+    ("∇MAIN\n¯\n∇\n", b"REFUSED 2 CHARACTER AT 8\n"),
+    (
+        "∇MAIN\n9223372036854775808\n∇\n",
+        b"REFUSED 4 NUMBER AT 8\n",
+    ),
+    ("∇MAIN\n2+3", b"REFUSED 6 HEADER AT 0\n"),
+    ("∇MAIN\n3+\n∇\n", b"REFUSED 7 FORM AT 8\n"),
+    ("∇MAIN\nFOO 3\n∇\n", b"REFUSED 13 FUNCTION AT 8\n"),
+    ("VAR A NUM\n∇MAIN\n∇\n", b"REFUSED 11 DECLARATION AT 0\n"),
+    ("∇MAIN\n∇\n∇MAIN\n∇\n", b"REFUSED 12 TWICE AT 15\n"),
+    (
+        "∇MAIN;X\nX←1\nF\n∇\n∇F\nX\n∇\n",
+        b"REFUSED 14 SHADOW AT 27\n",
+    ),
+    (
+        "∇MAIN;X\nF\n∇\n∇F\nG\n∇\n∇G\nX\n∇\n",
+        b"REFUSED 14 SHADOW AT 32\n",
+    ),
+    ("∇F\n∇\n", b"REFUSED 15 MAIN AT 0\n"),
+    ("∇MAIN B\n∇\n", b"REFUSED 15 MAIN AT 3\n"),
+    ("∇MAIN\nL←1\nL:\n∇\n", b"REFUSED 16 ASSIGN AT 8\n"),
+    ("∇MAIN\nA←1\n∇\n", b"REFUSED 90 LATER AT 8\n"),
+    ("∇MAIN\n1 2\n∇\n", b"REFUSED 90 LATER AT 8\n"),
+    ("∇MAIN\n2+⍳3\n∇\n", b"REFUSED 90 LATER AT 10\n"),
+    ("∇MAIN\n1 2⍴⍳3\n∇\n", b"REFUSED 90 LATER AT 8\n"),
+    ("∇MAIN\n1\nL:→L\n∇\n", b"REFUSED 90 LATER AT 12\n"),
+    ("∇MAIN\n1\n∇\n∇F\n-1\n∇\n", b"REFUSED 90 LATER AT 19\n"),
+];
+
+fn refused(err: &[u8]) -> Answer<'_> {
+    Answer {
+        status: Status::Refused,
+        text: b"",
+        out: b"",
+        err,
+    }
 }
 
 #[test]
 fn refuses(rt: HostRuntime) -> Result<(), Fail> {
-    let later = Answer {
-        status: Status::Refused,
-        text: b"",
-        out: b"",
-        err: b"REFUSED 90 LATER AT 8\n",
-    };
+    for (source, err) in REFUSED {
+        let case = Case {
+            words: &["--run", "f"],
+            file: source.as_bytes(),
+            ..PLAIN
+        };
+        check(&rt, rt.alloc(), &case, &refused(err))?;
+    }
     let case = Case {
-        file: "∇MAIN\n1 2\n∇\n".as_bytes(),
+        file: b"\xe2\x88\x87MAIN\n\xff\n\xe2\x88\x87\n",
         ..PLAIN
     };
-    check(&rt, rt.alloc(), &case, &later)?;
-    let case = Case {
-        file: "∇MAIN\n2+3".as_bytes(),
-        ..PLAIN
-    };
-    check(&rt, rt.alloc(), &case, &later)?;
+    check(&rt, rt.alloc(), &case, &refused(b"REFUSED 1 UTF8 AT 8\n"))?;
     let long = vec![in rt.alloc(); b'1'; 262_145]?;
     let case = Case {
         file: long.as_slice(),
         ..PLAIN
     };
-    let too_long = Answer {
-        err: b"REFUSED 23 TOO LONG AT 262144\n",
-        ..later
-    };
-    check(&rt, rt.alloc(), &case, &too_long)
+    check(
+        &rt,
+        rt.alloc(),
+        &case,
+        &refused(b"REFUSED 23 TOO LONG AT 262144\n"),
+    )
 }
 
 #[test]
 fn stops(rt: HostRuntime) -> Result<(), Fail> {
-    let usage = Answer {
-        status: Status::Usage,
-        text: b"",
-        out: b"",
-        err: b"usage: aplc [-o NAME] FILE; aplc --run [--steps M] [--stats] [-o NAME] FILE; aplc --check FILE; aplc --exec [--steps M] [--stats] FILE; aplc --make N\n",
-    };
-    let case = Case {
-        words: &[],
-        ..PLAIN
-    };
-    check(&rt, rt.alloc(), &case, &usage)?;
-    let case = Case {
-        words: &[""],
-        ..PLAIN
-    };
-    check(&rt, rt.alloc(), &case, &usage)?;
-    let case = Case {
-        words: &["-f"],
-        ..PLAIN
-    };
-    check(&rt, rt.alloc(), &case, &usage)?;
-    let case = Case {
-        words: &["f", "f"],
-        ..PLAIN
-    };
-    check(&rt, rt.alloc(), &case, &usage)?;
     let read_fault = Answer {
         status: Status::ReadFault,
         text: b"",
@@ -184,7 +199,7 @@ fn stops(rt: HostRuntime) -> Result<(), Fail> {
 
 // The text of `2+3×4` behind the preamble.
 const ROW: &[u8] =
-    b"static void f0(void);\nstatic void f0(void) {\nint64_t v0;\nat(\"MAIN\", 1);\nv0 = 4LL;\nv0 = mul(3LL, v0);\nv0 = add(2LL, v0);\nput_num(v0, 0LL);\nput_char(10LL);\n}\nint main(void) {\nf0();\nreturn 0;\n}\n";
+    b"static void f0(void);\nstatic void f0(void) {\nint64_t v0;\nat(\"MAIN\", 1);\nv0 = mul(3LL, 4LL);\nv0 = add(2LL, v0);\nput_num(v0, 0LL);\nput_char(10LL);\n}\nint main(void) {\nf0();\nreturn 0;\n}\n";
 
 const RAN: Answer<'static> = Answer {
     status: Status::Done,
@@ -207,7 +222,7 @@ fn runs(rt: HostRuntime) -> Result<(), Fail> {
         ..PLAIN
     };
     let text =
-        b"static void f0(void);\nstatic void f0(void) {\nint64_t v0;\nat(\"MAIN\", 1);\nv0 = 2LL;\nv0 = sub(5LL, v0);\nv0 = sub(10LL, v0);\nput_num(v0, 0LL);\nput_char(10LL);\n}\nint main(void) {\nf0();\nreturn 0;\n}\n";
+        b"static void f0(void);\nstatic void f0(void) {\nint64_t v0;\nat(\"MAIN\", 1);\nv0 = sub(5LL, 2LL);\nv0 = sub(10LL, v0);\nput_num(v0, 0LL);\nput_char(10LL);\n}\nint main(void) {\nf0();\nreturn 0;\n}\n";
     let seven = Answer {
         text,
         out: b"7\n",
@@ -220,7 +235,7 @@ fn runs(rt: HostRuntime) -> Result<(), Fail> {
         ..PLAIN
     };
     let text =
-        b"static void f0(void);\nstatic void f0(void) {\nint64_t v0;\nat(\"MAIN\", 1);\nv0 = 1LL;\nv0 = add(9223372036854775807LL, v0);\nput_num(v0, 0LL);\nput_char(10LL);\n}\nint main(void) {\nf0();\nreturn 0;\n}\n";
+        b"static void f0(void);\nstatic void f0(void) {\nint64_t v0;\nat(\"MAIN\", 1);\nv0 = add(9223372036854775807LL, 1LL);\nput_num(v0, 0LL);\nput_char(10LL);\n}\nint main(void) {\nf0();\nreturn 0;\n}\n";
     let limit = Answer {
         status: Status::Faulted,
         text,
@@ -230,7 +245,38 @@ fn runs(rt: HostRuntime) -> Result<(), Fail> {
     check(&rt, rt.alloc(), &case, &limit)
 }
 
-// Its location, three assignments, the number, the line end, and the end of its function: seven steps.
+// A source in parentheses, and one with a declaration, a local name, a label, a comment and a further function.
+#[test]
+fn reads_whole_sources(rt: HostRuntime) -> Result<(), Fail> {
+    let case = Case {
+        words: &["--run", "f"],
+        file: "∇MAIN\n(2+3)×4\n∇\n".as_bytes(),
+        ..PLAIN
+    };
+    let text =
+        b"static void f0(void);\nstatic void f0(void) {\nint64_t v0, v1;\nat(\"MAIN\", 1);\nv1 = add(2LL, 3LL);\nv0 = mul(v1, 4LL);\nput_num(v0, 0LL);\nput_char(10LL);\n}\nint main(void) {\nf0();\nreturn 0;\n}\n";
+    let twenty = Answer {
+        text,
+        out: b"20\n",
+        ..RAN
+    };
+    check(&rt, rt.alloc(), &case, &twenty)?;
+    let case = Case {
+        words: &["--run", "f"],
+        file: "ORIGIN 0\nVAR A NUM RANK 1\n\n∇R←F B\n∇\n∇MAIN;X\n⍝ no statement\nL: 2 + 3 ⍝ five\n∇".as_bytes(),
+        ..PLAIN
+    };
+    let text =
+        b"static void f0(void);\nstatic void f0(void) {\nint64_t v0;\nat(\"MAIN\", 2);\nv0 = add(2LL, 3LL);\nput_num(v0, 0LL);\nput_char(10LL);\n}\nint main(void) {\nf0();\nreturn 0;\n}\n";
+    let five = Answer {
+        text,
+        out: b"5\n",
+        ..RAN
+    };
+    check(&rt, rt.alloc(), &case, &five)
+}
+
+// Its location, two assignments, the number, the line end, and the end of its function: six steps.
 #[test]
 fn counts_steps(rt: HostRuntime) -> Result<(), Fail> {
     let spent = Answer {
@@ -246,7 +292,7 @@ fn counts_steps(rt: HostRuntime) -> Result<(), Fail> {
     };
     check(&rt, rt.alloc(), &case, &spent)?;
     let case = Case {
-        words: &["--run", "--steps", "5", "f"],
+        words: &["--run", "--steps", "4", "f"],
         file: "∇MAIN\n2+3×4\n∇\n".as_bytes(),
         ..PLAIN
     };
@@ -256,7 +302,7 @@ fn counts_steps(rt: HostRuntime) -> Result<(), Fail> {
     };
     check(&rt, rt.alloc(), &case, &number)?;
     let case = Case {
-        words: &["--run", "--steps", "6", "f"],
+        words: &["--run", "--steps", "5", "f"],
         file: "∇MAIN\n2+3×4\n∇\n".as_bytes(),
         ..PLAIN
     };
@@ -266,7 +312,7 @@ fn counts_steps(rt: HostRuntime) -> Result<(), Fail> {
     };
     check(&rt, rt.alloc(), &case, &line)?;
     let case = Case {
-        words: &["--run", "--steps", "0000000000000007", "f"],
+        words: &["--run", "--steps", "0000000000000006", "f"],
         file: "∇MAIN\n2+3×4\n∇\n".as_bytes(),
         ..PLAIN
     };
@@ -310,13 +356,37 @@ fn stops_in_a_run(rt: HostRuntime) -> Result<(), Fail> {
         file: "∇MAIN\n1 2\n∇\n".as_bytes(),
         ..PLAIN
     };
-    let refused = Answer {
-        status: Status::Refused,
+    check(&rt, rt.alloc(), &case, &refused(b"REFUSED 90 LATER AT 8\n"))
+}
+
+#[test]
+fn asks_for_a_file(rt: HostRuntime) -> Result<(), Fail> {
+    let usage = Answer {
+        status: Status::Usage,
         text: b"",
         out: b"",
-        err: b"REFUSED 90 LATER AT 8\n",
+        err: b"usage: aplc [-o NAME] FILE; aplc --run [--steps M] [--stats] [-o NAME] FILE; aplc --check FILE; aplc --exec [--steps M] [--stats] FILE; aplc --make N\n",
     };
-    check(&rt, rt.alloc(), &case, &refused)
+    let case = Case {
+        words: &[],
+        ..PLAIN
+    };
+    check(&rt, rt.alloc(), &case, &usage)?;
+    let case = Case {
+        words: &[""],
+        ..PLAIN
+    };
+    check(&rt, rt.alloc(), &case, &usage)?;
+    let case = Case {
+        words: &["-f"],
+        ..PLAIN
+    };
+    check(&rt, rt.alloc(), &case, &usage)?;
+    let case = Case {
+        words: &["f", "f"],
+        ..PLAIN
+    };
+    check(&rt, rt.alloc(), &case, &usage)
 }
 
 #[test]
@@ -371,10 +441,8 @@ fn tells_the_target(rt: HostRuntime) -> Result<(), Fail> {
     Ok(())
 }
 
-// Each public call that takes memory, with ample memory; `print` stands under `aplc`.
-#[test]
-fn takes_memory(rt: HostRuntime) -> Result<(), Fail> {
-    let alloc = rt.alloc();
+// A program of one function that takes cells and frees them.
+fn small_program(alloc: Global) -> Result<CProgram, Fail> {
     let mut b = Builder::new(alloc);
     let v = b.fresh_int()?;
     let p = b.fresh_buf()?;
@@ -387,16 +455,30 @@ fn takes_memory(rt: HostRuntime) -> Result<(), Fail> {
     b.emit(CStmt::PutNum(CExpr::Var(v), CExpr::Lit(0)))?;
     let mut functions = Vec::new(alloc);
     functions.push(b.finish())?;
-    let program = CProgram {
+    Ok(CProgram {
         tables: List::from_vec(Vec::new(alloc)),
         ints: 0,
         bufs: 0,
         functions: List::from_vec(functions),
-    };
-    let mut machine = Machine::start(alloc, program)?;
-    let mut host = MemHost::new(alloc, 0, Vec::new(alloc))?;
-    host.add("f", b"abc".to_vec(alloc)?)?;
-    let file = host.fetch(alloc, "f", 3)?;
+    })
+}
+
+// The program of a text, read back, printed again.
+fn printed_again(alloc: Global, text: &[u8]) -> Result<Vec<u8>, Fail> {
+    match read(alloc, text) {
+        Ok(program) => Ok(print(alloc, &program)?),
+        Err(_) => Ok(Vec::new(alloc)),
+    }
+}
+
+// Each public call that takes memory, with ample memory: the stages of the compiler stand under `aplc`.
+#[test]
+fn takes_memory(rt: HostRuntime) -> Result<(), Fail> {
+    let alloc = rt.alloc();
+    let mut machine = Machine::start(alloc, small_program(alloc)?)?;
+    let mut host = MemHost::new(alloc, 10_000, Vec::new(alloc))?;
+    host.add("f", "∇MAIN\n2+3×4\n∇\n".as_bytes().to_vec(alloc)?)?;
+    let file = host.fetch(alloc, "f", 100)?;
     let mut input = MemSource::new(file, Vec::new(alloc));
     let mut out = MemSink::new(alloc, 100, Vec::new(alloc))?;
     assert!(rt; machine.run(&mut input, &mut out, 100) == Ok(()));
@@ -404,6 +486,14 @@ fn takes_memory(rt: HostRuntime) -> Result<(), Fail> {
     assert_eq!(rt; machine.steps(), 6);
     assert_eq!(rt; machine.peak(), 3);
     assert_eq!(rt; machine.cells(), 0);
+    let mut words = Vec::new(alloc);
+    words.push(String::from_str(alloc, "--run")?)?;
+    words.push(String::from_str(alloc, "f")?)?;
+    let mut err = MemSink::new(alloc, 100, Vec::new(alloc))?;
+    let status = aplc(alloc, words, &mut host, &mut input, &mut out, &mut err);
+    assert_eq!(rt; status, Status::Done);
+    assert_eq!(rt; out.bytes(), b"514\n".as_slice());
+    assert_eq!(rt; printed_again(alloc, host.text())?.as_slice(), host.text());
     Ok(())
 }
 

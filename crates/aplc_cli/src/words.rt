@@ -5,7 +5,7 @@ ghost use Rattle.std.specs.Prelude.{◌≡◌, ◌≤◌, map, option_map, IfSom
 ghost use Rattle.std.specs.String.{string_bytes};
 ghost use Rattle.aplc_cli.specs.Words.{is_name, steps, on_file, command};
 
-use crate::source::magnitude;
+use crate::digits::magnitude;
 
 /// The most steps that `--steps` may name.
 const MOST_STEPS: u64 = 1_000_000_000_000_000;

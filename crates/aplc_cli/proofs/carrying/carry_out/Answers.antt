@@ -1,7 +1,4 @@
-use Rattle.std.proofs.Common.{Err, ℕ, List, [], subst}
-use Rattle.aplc_cprof.specs.declared.syntax.CProgram.{CProgram}
-use Rattle.aplc_cprof.specs.Machine.{code_of, initial}
-use Rattle.aplc_crun.specs.Running.{Stands}
+use Rattle.std.proofs.Common.{Err, subst}
 use Rattle.aplc_crun.specs.Ran.{Ran}
 use Rattle.aplc_cli.specs.Carrying.{Streams}
 use Rattle.aplc_cli.proofs.RunEnds.{ended, faulted, spent, stuck, unreadable, unwritable, wanting}

@@ -1,4 +1,4 @@
-use Rattle.std.proofs.Common.{Ok, Err, refl, []}
+use Rattle.std.proofs.Common.{Ok, Err, refl}
 use Rattle.aplc_cli.specs.declared.words.Action.TheVariants as action
 use Rattle.aplc_cli.specs.Came.{told, result_map}
 use Rattle.aplc_cli.specs.Call.{Outside}

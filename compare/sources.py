@@ -1,0 +1,123 @@
+"""Random sources: sums, all forms of statements, functions that call each other, sources at the limits, broken bytes."""
+
+SYMBOLS = list("+-×⌈⌊<≤=≥>≠∧∨⍲⍱~⍴,⍳↑↓⌽⊖⍉/⌿\\⍀∊.∘←→()[];:⍞⎕∇|")
+NAMES = ["A", "B", "X", "F", "G", "H", "MAIN", "L", "R", "ORIGIN", "VAR", "NUM", "RANK"]
+GREAT = ["9223372036854775807", "¯9223372036854775807", "4611686018427387904", "3037000500", "007"]
+BEFORE = list("+-×⌈⌊~⍴,⍳⍉|⌽⊖") + ["+/", "-\\", "×⌿[1]", "⌽[2]", "F ", "G "]
+BETWEEN = list("+-×⌈<=∧⍴,⍳↑↓⌽/\\∊|") + ["∘.+", "+.×", " F ", " G ", "⍀[1]"]
+ODD = ["F", "G", "H", "F 1", "1 G 2", "H H", "A F 1", "X", "A 1", "A(1)", "A B←1"]
+DECLARATIONS = ["ORIGIN 0", "ORIGIN 1", "VAR A NUM RANK 0", "VAR B CHAR RANK 8", "VAR F NUM RANK 1", "ORIGIN 2", "VAR A NUM", "⍝ x", ""]
+
+
+class Sources:
+    def __init__(self, random):
+        self.random = random
+        self.pick = random.choice
+
+    def likely(self, share):
+        return self.random.random() < share
+
+    def number(self):
+        if self.likely(0.001):
+            return "9223372036854775808"
+        return self.pick(GREAT) if self.likely(0.15) else self.pick(["", "", "", "¯"]) + str(self.random.randint(0, 12))
+
+    def sum(self, depth):
+        if depth == 0 or self.likely(0.3):
+            return self.number()
+        if self.likely(0.2):
+            return "(" + self.sum(depth - 1) + ")"
+        left = self.number() if self.likely(0.6) else "(" + self.sum(depth - 1) + ")"
+        blank = self.pick(["", " "])
+        return left + blank + self.pick("+-×") + blank + self.sum(depth - 1)
+
+    def indices(self, depth):
+        entries = ["", self.value(depth), self.value(depth)]
+        return "[" + self.pick(entries) + self.pick(["", ";"]) + self.pick(entries) + "]"
+
+    def value(self, depth):
+        if depth <= 0 or self.likely(0.2):
+            return self.pick([self.number(), self.number() + " " + self.number(), "'ab'", self.pick(NAMES), "⍞", "⎕NUMS", "''''"])
+        right = self.value(depth - 1)
+        left = self.pick([self.number(), "(" + self.value(depth - 1) + ")", self.pick(NAMES), self.number() + " " + self.number()])
+        name = self.pick(NAMES)
+        return self.pick([
+            "(" + right + ")", self.pick(BEFORE) + right, name + "←" + right, "⎕←" + right,
+            name + self.indices(depth - 1) + "←" + right, left + self.indices(depth - 1), left + self.pick(BETWEEN) + right,
+            left + self.pick(BETWEEN) + right, left + self.pick(BETWEEN) + right,
+        ])
+
+    def line(self):
+        label = self.pick(["", "", "", "", "L:", "A:", "X: ", "F:"])
+        comment = self.pick(["", "", "", "⍝ c", " ⍝ ' ∇"])
+        words = "".join(self.pick(SYMBOLS + NAMES + [self.number(), " ", "'"]) for _ in range(self.random.randint(1, 7)))
+        kinds = [self.sum(5), self.sum(3), self.sum(2), self.value(4), self.value(3), self.value(2), "→" + self.value(2), "", self.pick(ODD), words]
+        return label + self.pick(kinds) + comment
+
+    def header(self):
+        f = self.pick(["F", "G", "H", "MAIN", "X"])
+        local = "".join(";" + self.pick(NAMES) for _ in range(self.pick([0, 0, 1, 2])))
+        return "∇" + self.pick(["", "", "R←", "A←"]) + self.pick([f, f + " B", "A " + f + " B", f]) + local
+
+    def function(self, header, line):
+        closing = "∇" if self.likely(0.97) else self.pick(["∇ 1", "∇∇", ""])
+        return [header] + [line() for _ in range(self.random.randint(0, 5))] + [closing]
+
+    def forms(self):
+        """Functions of lines of any form."""
+        lines = [self.pick(DECLARATIONS) for _ in range(self.pick([0, 0, 0, 1, 2]))]
+        for header in self.random.sample(["∇MAIN" + self.pick(["", ";X", ";A;B"]), self.header(), self.header()], self.pick([1, 2, 3])):
+            lines += self.function(header, self.line)
+            lines += [self.pick(["", "1", "⍝", "ORIGIN 1"])] if self.likely(0.05) else []
+        return lines
+
+    def sums(self):
+        """What is built alone."""
+        lines = self.function("∇MAIN", lambda: self.sum(6))
+        return lines + self.function("∇F B", lambda: self.sum(3)) if self.likely(0.3) else lines
+
+    def call(self, names):
+        variable = self.pick("XYABZ")
+        return self.pick([
+            self.pick(names), self.pick(names), variable, variable + "←1", variable + "[1]←2", variable + ":" + self.pick(names),
+            "L:", "→L", "1+2", "", "⎕←Y",
+        ])
+
+    def calls(self):
+        """Functions that call each other, with local names."""
+        names = ["MAIN"] + self.random.sample(["F", "G", "H", "P", "Q"], self.random.randint(1, 4))
+        lines = []
+        for f in self.random.sample(names, len(names)):
+            local = "".join(";" + x for x in self.random.sample(list("XYABZ"), self.pick([0, 0, 1, 2])))
+            lines += self.function("∇" + f + local, lambda: self.call(names))
+        return lines
+
+    def limits(self):
+        """Nesting, nodes, lines and functions about as many as there may be."""
+        count = self.random.randint(30, 34)
+        opened = [self.pick(["(", "(", "A["]) for _ in range(count)]
+        closed = "".join(")" if x == "(" else "]" for x in reversed(opened))
+        many = self.random.randint(997, 1001)
+        return self.pick([
+            ["∇MAIN", "1+" + "".join(opened) + "1" + closed + self.pick(["", ")", "("]), "∇"],
+            ["∇MAIN", "1+" * self.random.randint(120, 132) + self.pick(["1", "A", "(1)", "-1"]), "∇"],
+            ["∇MAIN"] + [""] * many + [self.pick(["", "1+", "1"]), "∇"],
+            ["∇MAIN", "∇"] + [line for i in range(many) for line in ("∇F%d" % i, "∇")],
+        ])
+
+    def broken(self, source):
+        """The same with a few bytes changed."""
+        source = bytearray(source)
+        for _ in range(self.random.randint(1, 3)):
+            at = self.random.randrange(len(source))
+            source[at : at + 1] = self.pick([bytes([self.random.randrange(256)]), b"", bytes([self.pick(b"'()\r\n\t ;:1A+")]), source[at : at + 1] * 2])
+        return bytes(source)
+
+    def source(self):
+        share = self.random.random()
+        lines = self.limits() if share < 0.01 else self.sums() if share < 0.3 else self.calls() if share < 0.55 else self.forms()
+        end = self.pick(["\n", "\n", "\n", "\r\n"])
+        source = (end.join(lines) + (end if self.likely(0.9) else "")).encode()
+        if self.likely(0.05):
+            source = b"\xef\xbb\xbf" + source
+        return self.broken(source) if self.likely(0.12) and source else source

@@ -1,0 +1,30 @@
+//! From the bytes of a source to its program, with its names resolved: three stages, one after the other.
+//! It must not know what of a program is built.
+
+ghost use Rattle.std.specs.Prelude.{◌≤◌, length, IfOk, IfErr};
+ghost use Rattle.aplc_names.specs.Programs.{IsClean};
+ghost use Rattle.aplc_cli.specs.Sources.{Spells};
+ghost use Rattle.aplc_cli.specs.Call.{RefusesSource};
+
+use aplc_lex::{Token, tokens};
+use aplc_names::{Bound, Stop, resolve};
+use aplc_syntax::{Program, parse};
+use std::alloc::Global;
+
+/// The program of a file, or its first refusal among those of tokens, statements and names.
+pub fn read_program(alloc: Global, file: &[u8]) -> Result<Bound, Stop>
+    requires { length file.now ≤ 262144 }
+    ensures spells { IfOk result (λ b. Spells file.now b) }
+    ensures clean { IfOk result (λ b. IsClean b) }
+    ensures refused { IfErr result (RefusesSource file.now) }
+{
+    let found = match tokens(alloc, file) {
+        Ok(found) => found,
+        Err(stop) => return Err(stop),
+    };
+    let program = match parse(alloc, file, found.as_slice()) {
+        Ok(program) => program,
+        Err(stop) => return Err(stop),
+    };
+    resolve(alloc, program)
+}

@@ -1,6 +1,7 @@
 mod Causes
 pub mod DigitSteps
 mod Ended
+mod Examples
 mod Stages
 pub mod Unbuilt
 mod RunEnds

@@ -1,6 +1,6 @@
 -- Code and runs of small programs, computed.
 use Rattle.std.proofs.Common.{◌≡◌, ◌∙◌, ap, ℕ, List, [], ◌∷◌, ◌++◌, refl, decimal, arith}
-use Rattle.std.specs.Prelude.{ℤ, pos, negsuc, codes}
+use Rattle.std.specs.Prelude.{ℤ, pos, negsuc, codes, Some, None}
 use Rattle.std.proofs.lemmas.Fmt.{decimal_digit, decimal_step}
 use Rattle.aplc_scalar.specs.declared.function.ScalarFn.TheVariants as function
 use Rattle.aplc_scalar.specs.declared.kind.FaultKind.TheVariants as fault
@@ -11,10 +11,18 @@ use Rattle.aplc_cprof.specs.declared.syntax.Checked.TheVariants as checked
 use Rattle.aplc_cprof.specs.declared.syntax.Int.TheVariants as int
 use Rattle.aplc_cprof.specs.declared.syntax.CStmt.TheVariants as stmt
 use Rattle.aplc_cprof.specs.Behaviour.{Ended, Faulted, Going}
-use Rattle.aplc_names.specs.Sums.{Sum, number, apply, nothing, quiet, display}
+use Rattle.aplc_syntax.specs.declared.tree.Node.{Node}
+use Rattle.aplc_syntax.specs.declared.tree.Form.TheVariants as v
+use Rattle.aplc_syntax.specs.declared.tree.Primitive.{Primitive}
+use Rattle.aplc_syntax.specs.declared.tree.Primitive.TheVariants as pr
+use Rattle.aplc_syntax.specs.Trees.{node}
+use Rattle.aplc_names.specs.Sums.{Sum, number, apply, nothing, quiet, display, dyad, sum_of}
+use Rattle.aplc_names.specs.Eager.{Place}
 use Rattle.aplc_names.specs.Runs.{eager, main}
+use Rattle.aplc_names.specs.Runs as run
 use Rattle.aplc_gen.specs.Emitted.{lines_code, widest}
 use Rattle.aplc_gen.specs.Shown.{source_behaviour}
+use Rattle.aplc_gen.proofs.Trees.{sum_node, sum_Numbers, sum_Dyad}
 
 -- `(2+3)×4`
 abbrev first : Sum
@@ -68,3 +76,49 @@ goes_on = refl
 faults : source_behaviour (display first ∷ nothing ∷ display over ∷ display second ∷ []) [] 9 ≡ Faulted (shown (pos 20)) fault.Limit main (pos 3)
 unfolding eager in_range
 faults = refl
+
+-- ---- The lines started
+
+abbrev at : ℕ → Place
+at l = record { function = main; line = l }
+
+-- an empty line is started too, and leaves no mark
+marks_ended : eager (display first ∷ nothing ∷ quiet second ∷ []) [] 3 ≡ run.Ended (shown (pos 20)) (at 1 ∷ at 3 ∷ [])
+unfolding eager in_range
+marks_ended = refl
+
+marks_going : eager (display first ∷ nothing ∷ quiet second ∷ []) [] 2 ≡ run.Going (shown (pos 20)) (at 1 ∷ [])
+unfolding eager in_range
+marks_going = refl
+
+-- a fault has the places of the frames, innermost first
+marks_faulted : eager (display first ∷ display over ∷ display second ∷ []) [] 9 ≡ run.Faulted (shown (pos 20)) (at 1 ∷ at 2 ∷ []) fault.Limit (at 2 ∷ [])
+unfolding eager in_range
+marks_faulted = refl
+
+-- ---- Trees
+
+abbrev one : ℕ → ℤ → Node
+one p x = node p (v.Numbers (x ∷ []))
+
+one_is : (p : ℕ) (x : ℤ) → sum_of (one p x) ≡ Some (number x)
+one_is p x = sum_node (one p x) ∙ sum_Numbers (x ∷ [])
+
+two_are : (p : ℕ) (f : Primitive) (a b : Node) → sum_of (node p (v.Dyad f a b)) ≡ dyad f (sum_of a) (sum_of b)
+two_are p f a b = sum_node (node p (v.Dyad f a b)) ∙ sum_Dyad f a b
+
+-- the tree of `(2+3)×4` in the first line of MAIN
+abbrev tree : Node
+tree = node 13 (v.Dyad (pr.Scalar function.Mul) (node 10 (v.Dyad (pr.Scalar function.Add) (one 9 (pos 2)) (one 11 (pos 3)))) (one 15 (pos 4)))
+
+tree_is_first : sum_of tree ≡ Some first
+tree_is_first =
+    two_are 13 (pr.Scalar function.Mul) (node 10 (v.Dyad (pr.Scalar function.Add) (one 9 (pos 2)) (one 11 (pos 3)))) (one 15 (pos 4))
+    ∙ ap (λ b. dyad (pr.Scalar function.Mul) (sum_of (node 10 (v.Dyad (pr.Scalar function.Add) (one 9 (pos 2)) (one 11 (pos 3))))) b) (one_is 15 (pos 4))
+    ∙ ap (λ a. dyad (pr.Scalar function.Mul) a (Some (number (pos 4)))) (two_are 10 (pr.Scalar function.Add) (one 9 (pos 2)) (one 11 (pos 3)))
+    ∙ ap (λ b. dyad (pr.Scalar function.Mul) (dyad (pr.Scalar function.Add) (sum_of (one 9 (pos 2))) b) (Some (number (pos 4)))) (one_is 11 (pos 3))
+    ∙ ap (λ a. dyad (pr.Scalar function.Mul) (dyad (pr.Scalar function.Add) a (Some (number (pos 3)))) (Some (number (pos 4)))) (one_is 9 (pos 2))
+
+-- a vector of two numbers is no sum
+vector_is_none : sum_of (node 8 (v.Numbers (pos 1 ∷ pos 2 ∷ []))) ≡ None
+vector_is_none = sum_node (node 8 (v.Numbers (pos 1 ∷ pos 2 ∷ []))) ∙ sum_Numbers (pos 1 ∷ pos 2 ∷ [])

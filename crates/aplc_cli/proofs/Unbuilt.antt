@@ -12,7 +12,8 @@ use Rattle.aplc_syntax.specs.declared.tree.Form.TheOpen.{Form-F}
 use Rattle.aplc_syntax.specs.declared.tree.Form.TheFolds.{fold-roll-Form, fold_out-Node}
 use Rattle.aplc_syntax.specs.declared.tree.Line.{Line}
 use Rattle.aplc_syntax.specs.declared.tree.Function.{Function}
-use Rattle.aplc_names.specs.Sums.{Sum, Task, task_of, with_task, tasks_of, alone, dyad, form_sum, node_sum, sum_of, sum_in}
+use Rattle.aplc_names.specs.Sums.{Task, task_of, with_task, tasks_of}
+use Rattle.aplc_names.proofs.SumForms.{sum_node, sum_Numbers, sum_Text, sum_Name, sum_TextInput, sum_NumsInput, sum_Mono, sum_Dyad, sum_Assign, sum_Show, sum_Index, sum_AssignAt, sum_Call}
 use Rattle.aplc_cli.specs.Later.{is_built, is_one, unless, present, smaller, least, form_later, node_later, later_in, later_in_form, optional_later, entries_later, line_later, lines_later, functions_later, has_tasks}
 
 -- ---- The least of places
@@ -65,9 +66,6 @@ places_at p x = later_in_form x p
 pub later_node : (n : Node) → later_in n ≡ later_in_form n.form n.place
 later_node n = fold_out-Node (ℕ → List ℕ) (List ℕ) form_later node_later n
 
-pub sum_node : (n : Node) → sum_of n ≡ sum_in n.form
-sum_node n = fold_out-Node (Option Sum) (Option Sum) form_sum node_sum n
-
 pub ruleset node_equations = (later_node, sum_node)
 
 -- ---- Forms
@@ -81,80 +79,41 @@ entries_same f (Some n ∷ xs) h k = ap (λ x. present (x ∷ map f xs)) (k n) �
 pub later_Numbers : (xs : List ℤ) (p : ℕ) → later_in_form (v.Numbers xs) p ≡ unless (is_one xs) p
 later_Numbers xs p = ap (places_at p) (sym (v.rolls-Numbers xs)) ∙ ap (λ (h : ℕ → List ℕ). h p) (fold-roll-Form (ℕ → List ℕ) (List ℕ) form_later node_later (Form-F.Numbers xs))
 
-pub sum_Numbers : (xs : List ℤ) → sum_in (v.Numbers xs) ≡ alone xs
-sum_Numbers xs = ap sum_in (sym (v.rolls-Numbers xs)) ∙ fold-roll-Form (Option Sum) (Option Sum) form_sum node_sum (Form-F.Numbers xs)
-
 pub later_Text : (xs : List ℕ) (p : ℕ) → later_in_form (v.Text xs) p ≡ p ∷ []
 later_Text xs p = ap (places_at p) (sym (v.rolls-Text xs)) ∙ ap (λ (h : ℕ → List ℕ). h p) (fold-roll-Form (ℕ → List ℕ) (List ℕ) form_later node_later (Form-F.Text xs))
-
-pub sum_Text : (xs : List ℕ) → sum_in (v.Text xs) ≡ None
-sum_Text xs = ap sum_in (sym (v.rolls-Text xs)) ∙ fold-roll-Form (Option Sum) (Option Sum) form_sum node_sum (Form-F.Text xs)
 
 pub later_Name : (n : NameId) (p : ℕ) → later_in_form (v.Name n) p ≡ p ∷ []
 later_Name n p = ap (places_at p) (sym (v.rolls-Name n)) ∙ ap (λ (h : ℕ → List ℕ). h p) (fold-roll-Form (ℕ → List ℕ) (List ℕ) form_later node_later (Form-F.Name n))
 
-pub sum_Name : (n : NameId) → sum_in (v.Name n) ≡ None
-sum_Name n = ap sum_in (sym (v.rolls-Name n)) ∙ fold-roll-Form (Option Sum) (Option Sum) form_sum node_sum (Form-F.Name n)
-
 pub later_TextInput : (p : ℕ) → later_in_form (v.TextInput) p ≡ p ∷ []
 later_TextInput p = ap (places_at p) (sym (v.rolls-TextInput)) ∙ ap (λ (h : ℕ → List ℕ). h p) (fold-roll-Form (ℕ → List ℕ) (List ℕ) form_later node_later (Form-F.TextInput))
-
-pub sum_TextInput : sum_in (v.TextInput) ≡ None
-sum_TextInput = ap sum_in (sym (v.rolls-TextInput)) ∙ fold-roll-Form (Option Sum) (Option Sum) form_sum node_sum (Form-F.TextInput)
 
 pub later_NumsInput : (p : ℕ) → later_in_form (v.NumsInput) p ≡ p ∷ []
 later_NumsInput p = ap (places_at p) (sym (v.rolls-NumsInput)) ∙ ap (λ (h : ℕ → List ℕ). h p) (fold-roll-Form (ℕ → List ℕ) (List ℕ) form_later node_later (Form-F.NumsInput))
 
-pub sum_NumsInput : sum_in (v.NumsInput) ≡ None
-sum_NumsInput = ap sum_in (sym (v.rolls-NumsInput)) ∙ fold-roll-Form (Option Sum) (Option Sum) form_sum node_sum (Form-F.NumsInput)
-
 pub later_Mono : (g : Primitive) (a : Node) (p : ℕ) → later_in_form (v.Mono g a) p ≡ p ∷ later_in a
 later_Mono g a p = ap (places_at p) (sym (v.rolls-Mono g a)) ∙ ap (λ (h : ℕ → List ℕ). h p) (fold-roll-Form (ℕ → List ℕ) (List ℕ) form_later node_later (Form-F.Mono g a))
-
-pub sum_Mono : (g : Primitive) (a : Node) → sum_in (v.Mono g a) ≡ None
-sum_Mono g a = ap sum_in (sym (v.rolls-Mono g a)) ∙ fold-roll-Form (Option Sum) (Option Sum) form_sum node_sum (Form-F.Mono g a)
 
 pub later_Dyad : (g : Primitive) (a b : Node) (p : ℕ) → later_in_form (v.Dyad g a b) p ≡ unless (is_built g) p ++ (later_in a ++ later_in b)
 later_Dyad g a b p = ap (places_at p) (sym (v.rolls-Dyad g a b)) ∙ ap (λ (h : ℕ → List ℕ). h p) (fold-roll-Form (ℕ → List ℕ) (List ℕ) form_later node_later (Form-F.Dyad g a b))
 
-pub sum_Dyad : (g : Primitive) (a b : Node) → sum_in (v.Dyad g a b) ≡ dyad g (sum_of a) (sum_of b)
-sum_Dyad g a b = ap sum_in (sym (v.rolls-Dyad g a b)) ∙ fold-roll-Form (Option Sum) (Option Sum) form_sum node_sum (Form-F.Dyad g a b)
-
 pub later_Assign : (n : NameId) (a : Node) (p : ℕ) → later_in_form (v.Assign n a) p ≡ p ∷ later_in a
 later_Assign n a p = ap (places_at p) (sym (v.rolls-Assign n a)) ∙ ap (λ (h : ℕ → List ℕ). h p) (fold-roll-Form (ℕ → List ℕ) (List ℕ) form_later node_later (Form-F.Assign n a))
-
-pub sum_Assign : (n : NameId) (a : Node) → sum_in (v.Assign n a) ≡ None
-sum_Assign n a = ap sum_in (sym (v.rolls-Assign n a)) ∙ fold-roll-Form (Option Sum) (Option Sum) form_sum node_sum (Form-F.Assign n a)
 
 pub later_Show : (a : Node) (p : ℕ) → later_in_form (v.Show a) p ≡ p ∷ later_in a
 later_Show a p = ap (places_at p) (sym (v.rolls-Show a)) ∙ ap (λ (h : ℕ → List ℕ). h p) (fold-roll-Form (ℕ → List ℕ) (List ℕ) form_later node_later (Form-F.Show a))
 
-pub sum_Show : (a : Node) → sum_in (v.Show a) ≡ None
-sum_Show a = ap sum_in (sym (v.rolls-Show a)) ∙ fold-roll-Form (Option Sum) (Option Sum) form_sum node_sum (Form-F.Show a)
-
 pub later_Index : (a : Node) (xs : List (Option Node)) (p : ℕ) → later_in_form (v.Index a xs) p ≡ p ∷ (later_in a ++ entries_later xs)
 later_Index a xs p = ap (places_at p) (sym (v.rolls-Index a xs)) ∙ ap (λ (h : ℕ → List ℕ). h p) (fold-roll-Form (ℕ → List ℕ) (List ℕ) form_later node_later (Form-F.Index a xs)) ∙ ap (λ t. p ∷ (later_in a ++ t)) (entries_same _ xs refl (λ m. refl))
 
-pub sum_Index : (a : Node) (xs : List (Option Node)) → sum_in (v.Index a xs) ≡ None
-sum_Index a xs = ap sum_in (sym (v.rolls-Index a xs)) ∙ fold-roll-Form (Option Sum) (Option Sum) form_sum node_sum (Form-F.Index a xs)
-
 pub later_AssignAt : (n : NameId) (xs : List (Option Node)) (a : Node) (p : ℕ) → later_in_form (v.AssignAt n xs a) p ≡ p ∷ (entries_later xs ++ later_in a)
 later_AssignAt n xs a p = ap (places_at p) (sym (v.rolls-AssignAt n xs a)) ∙ ap (λ (h : ℕ → List ℕ). h p) (fold-roll-Form (ℕ → List ℕ) (List ℕ) form_later node_later (Form-F.AssignAt n xs a)) ∙ ap (λ t. p ∷ (t ++ later_in a)) (entries_same _ xs refl (λ m. refl))
-
-pub sum_AssignAt : (n : NameId) (xs : List (Option Node)) (a : Node) → sum_in (v.AssignAt n xs a) ≡ None
-sum_AssignAt n xs a = ap sum_in (sym (v.rolls-AssignAt n xs a)) ∙ fold-roll-Form (Option Sum) (Option Sum) form_sum node_sum (Form-F.AssignAt n xs a)
 
 pub later_Call : (n : NameId) (a b : Option Node) (p : ℕ) → later_in_form (v.Call n a b) p ≡ p ∷ (optional_later a ++ optional_later b)
 later_Call n None None p = ap (places_at p) (sym (v.rolls-Call n None None)) ∙ ap (λ (h : ℕ → List ℕ). h p) (fold-roll-Form (ℕ → List ℕ) (List ℕ) form_later node_later (Form-F.Call n None None))
 later_Call n None (Some b) p = ap (places_at p) (sym (v.rolls-Call n None (Some b))) ∙ ap (λ (h : ℕ → List ℕ). h p) (fold-roll-Form (ℕ → List ℕ) (List ℕ) form_later node_later (Form-F.Call n None (Some b))) ∙ ap (λ t. p ∷ t) (append-nil (later_in b))
 later_Call n (Some a) None p = ap (places_at p) (sym (v.rolls-Call n (Some a) None)) ∙ ap (λ (h : ℕ → List ℕ). h p) (fold-roll-Form (ℕ → List ℕ) (List ℕ) form_later node_later (Form-F.Call n (Some a) None))
 later_Call n (Some a) (Some b) p = ap (places_at p) (sym (v.rolls-Call n (Some a) (Some b))) ∙ ap (λ (h : ℕ → List ℕ). h p) (fold-roll-Form (ℕ → List ℕ) (List ℕ) form_later node_later (Form-F.Call n (Some a) (Some b))) ∙ ap (λ t. p ∷ (later_in a ++ t)) (append-nil (later_in b))
-
-pub sum_Call : (n : NameId) (a b : Option Node) → sum_in (v.Call n a b) ≡ None
-sum_Call n None None = ap sum_in (sym (v.rolls-Call n None None)) ∙ fold-roll-Form (Option Sum) (Option Sum) form_sum node_sum (Form-F.Call n None None)
-sum_Call n None (Some b) = ap sum_in (sym (v.rolls-Call n None (Some b))) ∙ fold-roll-Form (Option Sum) (Option Sum) form_sum node_sum (Form-F.Call n None (Some b))
-sum_Call n (Some a) None = ap sum_in (sym (v.rolls-Call n (Some a) None)) ∙ fold-roll-Form (Option Sum) (Option Sum) form_sum node_sum (Form-F.Call n (Some a) None)
-sum_Call n (Some a) (Some b) = ap sum_in (sym (v.rolls-Call n (Some a) (Some b))) ∙ fold-roll-Form (Option Sum) (Option Sum) form_sum node_sum (Form-F.Call n (Some a) (Some b))
 
 pub ruleset form_equations = (later_Numbers, sum_Numbers, later_Text, sum_Text, later_Name, sum_Name, later_TextInput, sum_TextInput, later_NumsInput, sum_NumsInput, later_Mono, sum_Mono, later_Dyad, sum_Dyad, later_Assign, sum_Assign, later_Show, sum_Show, later_Index, sum_Index, later_AssignAt, sum_AssignAt, later_Call, sum_Call, least_append)
 

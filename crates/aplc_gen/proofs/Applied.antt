@@ -18,7 +18,8 @@ use Rattle.aplc_gen.specs.declared.frame.Frame.{Frame}
 use Rattle.aplc_gen.specs.declared.operand.Operand.{Operand}
 use Rattle.aplc_gen.specs.Emitted.{checked_of, operand_of, expression, apply_code, operand_code, width, is_supported}
 use Rattle.aplc_gen.specs.Frames.{IsThere, AreInRange, with_ints, with_stmts, with_code, locals, the_sum, checked_for, numbers_of_form}
-use Rattle.aplc_gen.proofs.Trees.{sum_Dyad, sum_Numbers, numbers_Dyad, numbers_Numbers, IsApplied, dyad_parts}
+use Rattle.aplc_names.proofs.SumForms.{sum_Dyad, sum_Numbers}
+use Rattle.aplc_gen.proofs.Trees.{numbers_Dyad, numbers_Numbers, IsApplied, dyad_parts}
 use Rattle.aplc_gen.proofs.Ranges.{all_left, all_right}
 use Rattle.aplc_scalar.specs.Scalar.{in_range}
 

@@ -22,7 +22,7 @@ use Rattle.aplc_names.specs.Runs.{eager, main}
 use Rattle.aplc_names.specs.Runs as run
 use Rattle.aplc_gen.specs.Emitted.{lines_code, widest}
 use Rattle.aplc_gen.specs.Shown.{source_behaviour}
-use Rattle.aplc_gen.proofs.Trees.{sum_node, sum_Numbers, sum_Dyad}
+use Rattle.aplc_names.proofs.SumForms.{sum_node, sum_Numbers, sum_Dyad}
 
 -- `(2+3)×4`
 abbrev first : Sum

@@ -13,11 +13,11 @@ ghost use Rattle.aplc_gen.specs.Shown.{source_behaviour};
 ghost use Rattle.aplc_gen.specs.Emitted.{expression, display_code, line_code, task_width, lines_code, widest, program_code, is_task_supported, are_supported};
 ghost use Rattle.aplc_gen.specs.Frames.{IsNamed, IsThere, IsOperand, AreInRange, HaveNumbersInRange, with_code, with_stmts, the_task, the_tasks};
 
-use crate::entry::main_function;
 use crate::frame::Frame;
 use crate::operand::{Operand, expression};
 use crate::sums::emit_node;
 use aplc_cprof::{CExpr, CProgram, CStmt, List};
+use aplc_names::main_function;
 use aplc_syntax::{Line, Program, Statement};
 use std::alloc::{AllocError, Global};
 

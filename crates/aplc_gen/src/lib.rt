@@ -2,7 +2,6 @@
 //! It must not know how a source is read, nor how a C program is printed.
 #![tactic(auto)]
 
-mod entry;
 mod frame;
 mod generating;
 mod operand;

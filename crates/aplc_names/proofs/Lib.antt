@@ -15,3 +15,4 @@ pub mod InRange
 pub mod Elements
 pub mod Headers
 pub mod Below
+pub mod SumForms

@@ -5,8 +5,9 @@ ghost use Rattle.std.specs.Prelude.{◌≡◌, ◌&&◌, ◌||◌};
 ghost use Rattle.std.specs.List.{list_any};
 ghost use Rattle.aplc_names.specs.Tables.{first, stands_in};
 ghost use Rattle.aplc_names.specs.Firsts.{Somewhere, IsFirstOf, is_before};
-ghost use Rattle.aplc_names.specs.Clashes.{IsAgain, IsTaken, IsAssigned, IsMainless, StandsIn, is_main, is_start, main_place};
+ghost use Rattle.aplc_names.specs.Clashes.{IsAgain, IsTaken, IsAssigned, IsMainless, StandsIn, is_start, main_place};
 
+use crate::entry::is_main;
 use crate::minimum::{earlier, refused_if};
 use crate::outline::{Mention, Outline};
 use crate::table::Table;
@@ -74,19 +75,10 @@ pub fn assigned(heads: &Table, outline: &Outline) -> Option<Refusal>
     best
 }
 
-fn is_main(names: &[List<u8>], outline: &Outline) -> bool
-    ensures { result ≡ is_main names.now outline.now }
-{
-    match names.get(outline.name.name.0 as usize) {
-        Some(bytes) => bytes.as_slice() == b"MAIN".as_slice(),
-        None => false,
-    }
-}
-
 fn is_start(names: &[List<u8>], outline: &Outline) -> bool
     ensures { result ≡ is_start names.now outline.now }
 {
-    is_main(names, outline) && outline.bare
+    is_main(names, outline.name.name) && outline.bare
 }
 
 /// The place of the first function MAIN, or 0.
@@ -94,7 +86,7 @@ fn main_place(names: &[List<u8>], outlines: &[Outline]) -> u64
     ensures { result ≡ main_place names.now outlines.now }
 {
     for f in outlines {
-        if is_main(names, f) {
+        if is_main(names, f.name.name) {
             return f.name.place;
         }
     }

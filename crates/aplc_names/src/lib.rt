@@ -4,6 +4,7 @@
 
 mod bound;
 mod clashes;
+mod entry;
 mod graph;
 mod minimum;
 mod outline;
@@ -15,4 +16,5 @@ mod tests;
 
 pub use aplc_lex::{Refusal, Stop};
 pub use bound::{Bound, resolve};
+pub use entry::main_function;
 pub use scope::Scope;

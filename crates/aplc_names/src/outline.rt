@@ -193,6 +193,13 @@ fn label_lines(alloc: Global, lines: &[Line]) -> Result<Vec<i64>, AllocError>
     Ok(out)
 }
 
+/// A function has neither arguments nor a result.
+pub fn is_bare(function: &Function) -> bool
+    ensures { result ≡ is_bare function.now }
+{
+    function.result.is_none() && function.left.is_none() && function.right.is_none()
+}
+
 /// What a function says of names.
 pub fn outline_of(alloc: Global, function: &Function) -> Result<Outline, AllocError>
     requires { length function.now.lines ≤ 999 }
@@ -203,7 +210,7 @@ pub fn outline_of(alloc: Global, function: &Function) -> Result<Outline, AllocEr
     put_labels(&mut labels, lines)?;
     Ok(Outline {
         name: function.name,
-        bare: function.result.is_none() && function.left.is_none() && function.right.is_none(),
+        bare: is_bare(function),
         locals: Table::new(alloc, local_names(alloc, function)?)?,
         labels: Table::new(alloc, labels)?,
         lines: List::from_vec(label_lines(alloc, lines)?),

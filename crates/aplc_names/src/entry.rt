@@ -1,17 +1,18 @@
 //! The function where a program starts.
 //! It must not know what its lines do.
 
-ghost use Rattle.std.specs.Prelude.{◌≡◌, codes, Some};
+ghost use Rattle.std.specs.Prelude.{◌≡◌, codes, is_some, true, Some};
 ghost use Rattle.aplc_syntax.specs.Layout.{is_called};
 ghost use Rattle.aplc_names.specs.Outlines.{outline};
 ghost use Rattle.aplc_names.specs.Clashes.{is_start};
 ghost use Rattle.aplc_names.specs.Sums.{main_function};
-ghost use Rattle.aplc_gen.specs.Frames.{IsThere};
 
+use crate::outline::is_bare;
 use aplc_lex::List;
 use aplc_syntax::{Function, NameId, Program};
 
-fn is_main(names: &[List<u8>], name: NameId) -> bool
+/// A name is MAIN, where these are the names of the program.
+pub fn is_main(names: &[List<u8>], name: NameId) -> bool
     ensures { result ≡ is_called names.now name.0 (codes "MAIN") }
 {
     match names.get(name.0 as usize) {
@@ -20,21 +21,15 @@ fn is_main(names: &[List<u8>], name: NameId) -> bool
     }
 }
 
-fn is_bare(function: &Function) -> bool
-    ensures { result ≡ (outline function.now).bare }
-{
-    function.result.is_none() && function.left.is_none() && function.right.is_none()
-}
-
 fn is_start(names: &[List<u8>], function: &Function) -> bool
     ensures { result ≡ is_start names.now (outline function.now) }
 {
     is_main(names, function.name.name) && is_bare(function)
 }
 
-/// The first function MAIN without arguments and result.
+/// The first function MAIN without arguments and result, where there is one.
 pub fn main_function(program: &Program) -> &Function
-    requires { IsThere (main_function program.now) }
+    requires { is_some (main_function program.now) ≡ true }
     ensures { main_function program.now ≡ Some result.now }
 {
     let names = program.names.as_slice();

@@ -3,7 +3,7 @@ use Rattle.std.specs.Prelude.{find}
 use Rattle.aplc_syntax.specs.declared.tree.Function.{Function}
 use Rattle.aplc_names.specs.Outlines.{outline}
 use Rattle.aplc_names.specs.Clashes.{is_start}
-use Rattle.aplc_gen.proofs.entry.main_function.Given as goal
+use Rattle.aplc_names.proofs.entry.main_function.Given as goal
 
 abbrev pub invariant-loop-function : goal.invariant-loop-function
 invariant-loop-function l =

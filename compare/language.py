@@ -463,7 +463,7 @@ def value(node):
 
 
 def run(source):
-    """What is written to standard output and to standard error."""
+    """The status, and what is written to standard output and to standard error."""
     try:
         if len(source) > 262144:
             raise Refused(262144, 23)
@@ -472,12 +472,12 @@ def run(source):
         for place in sorted(later(functions))[:1]:
             raise Refused(place, 90)
     except Refused as r:
-        return "", f"REFUSED {r.number} {WORDS[r.number]} AT {r.place}\n"
+        return 2, "", f"REFUSED {r.number} {WORDS[r.number]} AT {r.place}\n"
     out = ""
     for number, (_, statement) in enumerate(main.lines, 1):
         if statement:
             try:
                 out += str(value(statement[2])).replace("-", "¯") + "\n"
             except Limit:
-                return out, f"LIMIT ERROR MAIN[{number}]\n"
-    return out, ""
+                return 1, out, f"LIMIT ERROR MAIN[{number}]\n"
+    return 0, out, ""

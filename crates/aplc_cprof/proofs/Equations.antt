@@ -79,6 +79,12 @@ text_ReadCount x = ap stmt_text (sym (stmt.rolls-ReadCount x)) ∙ fold-roll-CSt
 pub text_At : (name : List ℕ) (n : ℤ) → stmt_text (stmt.At name n) ≡ codes "at(\"" ++ name ++ codes "\", " ++ signed_decimal n ++ codes ");\n"
 text_At name n = ap stmt_text (sym (stmt.rolls-At name n)) ∙ fold-roll-CStmt (List ℕ) (List ℕ) stmt_step arm_step (CStmt-F.At name n)
 
+pub text_Enter : stmt_text stmt.Enter ≡ codes "enter();\n"
+text_Enter = ap stmt_text (sym stmt.rolls-Enter) ∙ fold-roll-CStmt (List ℕ) (List ℕ) stmt_step arm_step CStmt-F.Enter
+
+pub text_Leave : stmt_text stmt.Leave ≡ codes "leave();\n"
+text_Leave = ap stmt_text (sym stmt.rolls-Leave) ∙ fold-roll-CStmt (List ℕ) (List ℕ) stmt_step arm_step CStmt-F.Leave
+
 pub text_Fault : (k : FaultKind) → stmt_text (stmt.Fault k) ≡ codes "fault(" ++ decimal (fault_number k) ++ codes ");\n"
 text_Fault k = ap stmt_text (sym (stmt.rolls-Fault k)) ∙ fold-roll-CStmt (List ℕ) (List ℕ) stmt_step arm_step (CStmt-F.Fault k)
 
@@ -101,4 +107,4 @@ text_Switch x arms d = ap stmt_text (sym (stmt.rolls-Switch x arms d)) ∙ fold-
 pub text_arm : (a : Arm) → arm_text a ≡ codes "case " ++ signed_decimal a.value ++ codes ": {\n" ++ stmts_text a.body ++ codes "} break;\n"
 text_arm a = fold_out-Arm (List ℕ) (List ℕ) stmt_step arm_step a
 
-pub ruleset texts = (text_Set, text_SetCell, text_SetBuf, text_Cells, text_Free, text_Check, text_Width, text_PutNum, text_PutChar, text_ReadText, text_ReadNums, text_ReadCount, text_At, text_Fault, text_Call, text_Return, text_If, text_While, text_Switch)
+pub ruleset texts = (text_Set, text_SetCell, text_SetBuf, text_Cells, text_Free, text_Check, text_Width, text_PutNum, text_PutChar, text_ReadText, text_ReadNums, text_ReadCount, text_At, text_Enter, text_Leave, text_Fault, text_Call, text_Return, text_If, text_While, text_Switch)

@@ -96,6 +96,14 @@ pub is_At : (sc : Scope) (name : List ℕ) (n : ℤ) (room : Option ℕ) → is_
 unfolding is_stmt
 is_At sc name n room = ap (λ s. is_stmt sc s room) (sym (stmt.rolls-At name n)) ∙ ap (λ f. f room) (fold-roll-CStmt (Option ℕ → Bool) ArmTest (stmt_fits sc) arm_fits (CStmt-F.At name n))
 
+pub is_Enter : (sc : Scope) (room : Option ℕ) → is_stmt sc stmt.Enter room ≡ true
+unfolding is_stmt
+is_Enter sc room = ap (λ s. is_stmt sc s room) (sym stmt.rolls-Enter) ∙ ap (λ f. f room) (fold-roll-CStmt (Option ℕ → Bool) ArmTest (stmt_fits sc) arm_fits CStmt-F.Enter)
+
+pub is_Leave : (sc : Scope) (room : Option ℕ) → is_stmt sc stmt.Leave room ≡ true
+unfolding is_stmt
+is_Leave sc room = ap (λ s. is_stmt sc s room) (sym stmt.rolls-Leave) ∙ ap (λ f. f room) (fold-roll-CStmt (Option ℕ → Bool) ArmTest (stmt_fits sc) arm_fits CStmt-F.Leave)
+
 pub is_Fault : (sc : Scope) (k : FaultKind) (room : Option ℕ) → is_stmt sc (stmt.Fault k) room ≡ true
 unfolding is_stmt
 is_Fault sc k room = ap (λ s. is_stmt sc s room) (sym (stmt.rolls-Fault k)) ∙ ap (λ f. f room) (fold-roll-CStmt (Option ℕ → Bool) ArmTest (stmt_fits sc) arm_fits (CStmt-F.Fault k))
@@ -125,4 +133,4 @@ pub is_arm : (sc : Scope) (a : Arm) → arm_test sc a ≡ record { value = a.val
 unfolding is_stmt arm_test
 is_arm sc a = fold_out-Arm (Option ℕ → Bool) ArmTest (stmt_fits sc) arm_fits a
 
-pub ruleset forms = (is_Set, is_SetCell, is_SetBuf, is_Cells, is_Free, is_Check, is_Width, is_PutNum, is_PutChar, is_ReadText, is_ReadNums, is_ReadCount, is_At, is_Fault, is_Call, is_Return, is_If, is_While, is_Switch, is_arm)
+pub ruleset forms = (is_Set, is_SetCell, is_SetBuf, is_Cells, is_Free, is_Check, is_Width, is_PutNum, is_PutChar, is_ReadText, is_ReadNums, is_ReadCount, is_At, is_Enter, is_Leave, is_Fault, is_Call, is_Return, is_If, is_While, is_Switch, is_arm)

@@ -17,11 +17,11 @@ use Rattle.aplc_cprof.specs.declared.syntax.StuckCause.{StuckCause}
 use Rattle.aplc_cprof.specs.declared.syntax.CExpr.{CExpr}
 use Rattle.aplc_cprof.specs.declared.syntax.CStmt.{CStmt}
 use Rattle.aplc_cprof.specs.declared.syntax.CStmt.TheVariants as stmt
-use Rattle.aplc_cprof.specs.Machine.{total, size, numbered, numbered_if, is_zero, chosen, read_int, named_buf, buf_or_null, set_buf, text_width, code_of, initial, first_body, bodies_from, no_ints, no_bufs, Todo, Code, State, Is, Bad, Going, Ended, Faulted, ranged, exact, set_int, with_line, padded_text, is_scalar, value, settled, step, and_then, run}
+use Rattle.aplc_cprof.specs.Machine.{total, size, numbered, numbered_if, is_zero, chosen, read_int, named_buf, buf_or_null, set_buf, text_width, code_of, initial, first_body, bodies_from, no_ints, no_bufs, Place, most_places, placed, deeper, Todo, Code, State, Is, Bad, Going, Ended, Faulted, ranged, exact, set_int, with_line, padded_text, is_scalar, value, settled, step, and_then, run}
 use Rattle.aplc_cprof.specs.Behaviour.{shown, behaviour}
 use Rattle.aplc_cprof.specs.Behaviour as standing
 use Rattle.aplc_cprof.proofs.Values.{value_todo}
-use Rattle.aplc_cprof.proofs.Runs.{step_Set, step_Check, step_Check_limit, step_PutNum, step_PutChar, step_At, step_Fault, step_If, step_While, step_Width, step_ReadText, step_ReadText_fault, step_ReadNums, step_ReadNums_fault, step_ReadCount, step_SetBuf, step_Cells, step_SetCell, step_Free, step_Free_null, step_Switch, step_Call, step_leave, step_end}
+use Rattle.aplc_cprof.proofs.Runs.{step_Set, step_Check, step_Check_limit, step_PutNum, step_PutChar, step_At, step_Enter, step_Leave, step_Fault, step_If, step_While, step_Width, step_ReadText, step_ReadText_fault, step_ReadNums, step_ReadNums_fault, step_ReadCount, step_SetBuf, step_Cells, step_SetCell, step_Free, step_Free_null, step_Switch, step_Call, step_leave, step_end}
 
 -- numbers run on from one piece of code to the next
 pub numbered-append : (n : ℕ) (a b : List CStmt) → numbered n (a ++ b) ≡ numbered n a ++ numbered (n + total (map size a)) b
@@ -245,11 +245,25 @@ module _ (c : Code) where
       (λ n rest. let todo : Todo = (n, stmt.PutChar e) ∷ rest in step_PutChar c n e rest (record s { todo = todo }) k refl (value_todo e c.tables s todo ∙ is) scalar)
       (λ rest. refl)
 
-  -- a mark sets the function's name and the line
-  pub does_At : (Q : State → Type 0) (name : List ℕ) (l : ℤ) (s : State) (Post : State → Type 0) (Fail : FaultKind → State → Type 0) → ((rest : Todo) → Q (settled (record s { todo = rest; name = name; line = l }))) → ((rest : Todo) → Post (settled (record s { todo = rest; name = name; line = l }))) → Does Q 1 (stmt.At name l ∷ []) s Post Fail
+  -- the innermost place is set, and leaves a mark
+  pub does_At : (Q : State → Type 0) (name : List ℕ) (l : ℤ) (s : State) (Post : State → Type 0) (Fail : FaultKind → State → Type 0) → ((rest : Todo) → Q (settled (record (placed (record { name = name; line = l }) s) { todo = rest }))) → ((rest : Todo) → Post (settled (record (placed (record { name = name; line = l }) s) { todo = rest }))) → Does Q 1 (stmt.At name l ∷ []) s Post Fail
   does_At Q name l s Post Fail =
-      does_step Q (stmt.At name l) s Post Fail (λ rest. settled (record s { todo = rest; name = name; line = l }))
+      does_step Q (stmt.At name l) s Post Fail (λ rest. settled (record (placed (record { name = name; line = l }) s) { todo = rest }))
       (λ n rest. step_At c n name l rest (record s { todo = (n, stmt.At name l) ∷ rest }) refl)
+      (λ rest. refl)
+
+  -- an empty place before the others, where fewer than 4,096 stand
+  pub does_Enter : (Q : State → Type 0) (s : State) (Post : State → Type 0) (Fail : FaultKind → State → Type 0) → 1 + length s.places.behind < most_places → ((rest : Todo) → Q (settled (record s { todo = rest; places = deeper s.places }))) → ((rest : Todo) → Post (settled (record s { todo = rest; places = deeper s.places }))) → Does Q 1 (stmt.Enter ∷ []) s Post Fail
+  does_Enter Q s Post Fail lt =
+      does_step Q stmt.Enter s Post Fail (λ rest. settled (record s { todo = rest; places = deeper s.places }))
+      (λ n rest. step_Enter c n rest (record s { todo = (n, stmt.Enter) ∷ rest }) refl lt)
+      (λ rest. refl)
+
+  -- the innermost place goes, where it is not the last
+  pub does_Leave : (Q : State → Type 0) (s : State) (Post : State → Type 0) (Fail : FaultKind → State → Type 0) (p : Place) (ps : List Place) → s.places.behind ≡ p ∷ ps → ((rest : Todo) → Q (settled (record s { todo = rest; places = record { here = p; behind = ps } }))) → ((rest : Todo) → Post (settled (record s { todo = rest; places = record { here = p; behind = ps } }))) → Does Q 1 (stmt.Leave ∷ []) s Post Fail
+  does_Leave Q s Post Fail p ps is =
+      does_step Q stmt.Leave s Post Fail (λ rest. settled (record s { todo = rest; places = record { here = p; behind = ps } }))
+      (λ n rest. step_Leave c n rest (record s { todo = (n, stmt.Leave) ∷ rest }) p ps refl is)
       (λ rest. refl)
 
   -- a variable is set to the number of characters of a number's text
@@ -498,7 +512,7 @@ pub record Shows (p : CProgram) (input : List ℕ) (k : ℕ) (Post : State → T
   pub steps : ℕ
   pub within : steps ≤ k + 1
   pub at : State
-  pub verdict : ((behaviour p input steps ≡ standing.Ended at.output) × Post at) ⊎ ((kind : FaultKind) × (behaviour p input steps ≡ standing.Faulted at.output kind at.name at.line) × Fail kind at)
+  pub verdict : ((behaviour p input steps ≡ standing.Ended at.output at.marks) × Post at) ⊎ ((kind : FaultKind) × (behaviour p input steps ≡ standing.Faulted at.output at.marks kind at.places) × Fail kind at)
 
 -- what the first function's body does is what the program shows
 pub does_shows : (p : CProgram) (input : List ℕ) (f : CFunction) (fs : List CFunction) (Q : State → Type 0) (k : ℕ) (Post : State → Type 0) (Fail : FaultKind → State → Type 0) → p.functions ≡ f ∷ fs → ((t : State) → Post t → t.callers ≡ []) → Does (code_of p) Q k f.body (initial (code_of p) input) Post Fail → Shows p input k Post Fail
@@ -508,6 +522,6 @@ does_shows p input f fs Q k Post Fail h first d =
     let r = does_closes c Q k 1 f.body (initial c input) Post Fail (ap (λ (l : List CFunction). first_body (bodies_from 1 l)) h) first d in
     record { steps = r.steps; within = r.within; at = r.at; verdict = shows r.steps r.at r.verdict }
   where
-    shows : (m : ℕ) (t : State) → ((run (code_of p) m (initial (code_of p) input) ≡ Ended (settled t)) × Post t) ⊎ ((kind : FaultKind) × (run (code_of p) m (initial (code_of p) input) ≡ Faulted kind (settled t)) × Fail kind t) → ((behaviour p input m ≡ standing.Ended t.output) × Post t) ⊎ ((kind : FaultKind) × (behaviour p input m ≡ standing.Faulted t.output kind t.name t.line) × Fail kind t)
+    shows : (m : ℕ) (t : State) → ((run (code_of p) m (initial (code_of p) input) ≡ Ended (settled t)) × Post t) ⊎ ((kind : FaultKind) × (run (code_of p) m (initial (code_of p) input) ≡ Faulted kind (settled t)) × Fail kind t) → ((behaviour p input m ≡ standing.Ended t.output t.marks) × Post t) ⊎ ((kind : FaultKind) × (behaviour p input m ≡ standing.Faulted t.output t.marks kind t.places) × Fail kind t)
     shows m t (inl v) = inl (ap shown v.0, v.1)
     shows m t (inr v) = inr (v.0, ap shown v.1, v.2)

@@ -15,7 +15,7 @@ use Rattle.aplc_cprof.specs.declared.syntax.StuckCause.{StuckCause}
 use Rattle.aplc_cprof.specs.declared.syntax.StuckCause.TheVariants.{Range, Outside}
 use Rattle.aplc_scalar.specs.Number.{number_text}
 use Rattle.aplc_scalar.specs.Input.{Line, Unread, input_line, number_line}
-use Rattle.aplc_cprof.specs.Machine.{total, size, numbered, numbered_if, is_zero, chosen, no_ints, no_bufs, read_int, named_buf, set_buf, buf_or_null, text_width, new_cells, write_cell, write_live, with_line, read_cells, free_named, free_cells, enter, Caller, Todo, Code, State, Value, Is, Bad, Next, Going, Ended, Faulted, Stuck, value, ranged, exact, set_int, onward, with_value, limit_or, padded_text, printed, put_number, put_character, is_scalar, leave, act, due, settled, settled_next, step, and_then, run}
+use Rattle.aplc_cprof.specs.Machine.{total, size, numbered, numbered_if, is_zero, chosen, no_ints, no_bufs, read_int, named_buf, set_buf, buf_or_null, text_width, new_cells, write_cell, write_live, with_line, read_cells, free_named, free_cells, enter, Place, Places, most_places, placed, deeper, leave_place, Caller, Todo, Code, State, Value, Is, Bad, Next, Going, Ended, Faulted, Stuck, value, ranged, exact, set_int, onward, with_value, limit_or, padded_text, printed, put_number, put_character, is_scalar, leave, act, due, settled, settled_next, step, and_then, run}
 
 goes : (c : Code) (k m : ℕ) (x : Next) → ((s : State) → run c (k + m) s ≡ and_then (run c k s) (run c m)) → and_then x (run c (k + m)) ≡ and_then (and_then x (run c k)) (run c m)
 goes c k m (Going s) ih = ih s
@@ -78,9 +78,22 @@ step_PutChar c n e rest s k h is scalar =
     (ap (λ x. with_value x n s (λ v. put_character v n rest s)) is
     ∙ ap (λ b. cond b (printed (encode_utf8 k) rest s) (Stuck Range n s)) scalar)
 
--- a mark sets the function's name and the line
-pub step_At : (c : Code) (n : ℕ) (name : List ℕ) (l : ℤ) (rest : Todo) (s : State) → s.todo ≡ (n, stmt.At name l) ∷ rest → step c s ≡ Going (settled (record s { todo = rest; name = name; line = l }))
-step_At c n name l rest s h = step_act c n (stmt.At name l) (CStmt-F.At name l) rest s (onward rest (record s { name = name; line = l })) h (stmt.outs-At name l) refl
+-- the innermost place is set, and leaves a mark
+pub step_At : (c : Code) (n : ℕ) (name : List ℕ) (l : ℤ) (rest : Todo) (s : State) → s.todo ≡ (n, stmt.At name l) ∷ rest → step c s ≡ Going (settled (record (placed (record { name = name; line = l }) s) { todo = rest }))
+step_At c n name l rest s h = step_act c n (stmt.At name l) (CStmt-F.At name l) rest s (onward rest (placed (record { name = name; line = l }) s)) h (stmt.outs-At name l) refl
+
+-- an empty place before the others, where fewer than 4,096 stand
+pub step_Enter : (c : Code) (n : ℕ) (rest : Todo) (s : State) → s.todo ≡ (n, stmt.Enter) ∷ rest → 1 + length s.places.behind < most_places → step c s ≡ Going (settled (record s { todo = rest; places = deeper s.places }))
+step_Enter c n rest s h lt =
+    let few : nat_lt (1 + length s.places.behind) most_places ≡ true = grind (arith, lt) in
+    step_act c n stmt.Enter CStmt-F.Enter rest s (onward rest (record s { places = deeper s.places })) h stmt.outs-Enter
+    (ap (λ b. cond b (onward rest (record s { places = deeper s.places })) (Stuck Outside n s)) few)
+
+-- the innermost place goes, where it is not the last
+pub step_Leave : (c : Code) (n : ℕ) (rest : Todo) (s : State) (p : Place) (ps : List Place) → s.todo ≡ (n, stmt.Leave) ∷ rest → s.places.behind ≡ p ∷ ps → step c s ≡ Going (settled (record s { todo = rest; places = record { here = p; behind = ps } }))
+step_Leave c n rest s p ps h is =
+    step_act c n stmt.Leave CStmt-F.Leave rest s (onward rest (record s { places = record { here = p; behind = ps } })) h stmt.outs-Leave
+    (ap (λ (qs : List Place). leave_place qs n rest s) is)
 
 -- a variable is set to the number of characters of a number's text
 pub step_Width : (c : Code) (n : ℕ) (x : Int) (e : CExpr) (rest : Todo) (s : State) (v : ℤ) → s.todo ≡ (n, stmt.Width x e) ∷ rest → value e c.tables s ≡ Is v → step c s ≡ Going (settled (record (set_int x (pos (text_width v)) s) { todo = rest }))

@@ -92,6 +92,8 @@ level_written (CStmt-F.ReadText p) k = buf_name p ++ (codes " = read_text();\n" 
 level_written (CStmt-F.ReadNums p) k = buf_name p ++ (codes " = read_nums();\n" ++ k)
 level_written (CStmt-F.ReadCount x) k = int_name x ++ (codes " = read_n;\n" ++ k)
 level_written (CStmt-F.At name n) k = codes "at(\"" ++ (name ++ (codes "\", " ++ (signed_decimal n ++ (codes ");\n" ++ k))))
+level_written CStmt-F.Enter k = codes "enter();\n" ++ k
+level_written CStmt-F.Leave k = codes "leave();\n" ++ k
 level_written (CStmt-F.Fault i) k = codes "fault(" ++ (decimal (fault_number i) ++ (codes ");\n" ++ k))
 level_written (CStmt-F.Call n) k = codes "f" ++ (decimal n ++ (codes "();\n" ++ k))
 level_written CStmt-F.Return k = codes "return;\n" ++ k
@@ -144,6 +146,8 @@ level_is (CStmt-F.ReadText p) k = two (buf_name p) (codes " = read_text();\n") k
 level_is (CStmt-F.ReadNums p) k = two (buf_name p) (codes " = read_nums();\n") k
 level_is (CStmt-F.ReadCount x) k = two (int_name x) (codes " = read_n;\n") k
 level_is (CStmt-F.At name n) k = five (codes "at(\"") name (codes "\", ") (signed_decimal n) (codes ");\n") k
+level_is CStmt-F.Enter k = refl
+level_is CStmt-F.Leave k = refl
 level_is (CStmt-F.Fault i) k = three (codes "fault(") (decimal (fault_number i)) (codes ");\n") k
 level_is (CStmt-F.Call n) k = three (codes "f") (decimal n) (codes "();\n") k
 level_is CStmt-F.Return k = refl
@@ -176,9 +180,9 @@ buf_kind s =
 abbrev leaf_kind : ℕ → List ℕ → ℕ
 leaf_kind c s =
     cond (nat_eq c 100) 10 (cond (nat_eq c 112) (cond (nat_eq (get_or s 3 0) 110) 11 12) (cond (nat_eq c 97) 13 (cond (nat_eq c 102) (cond (is_digit (get_or s 0 0)) 15 14)
-    (cond (nat_eq c 114) 16 (cond (nat_eq c 105) (cond (nat_eq (get_or s 0 0) 102) 17 21) (cond (nat_eq c 119) 18 (cond (nat_eq c 115) 19 20)))))))
+    (cond (nat_eq c 114) 16 (cond (nat_eq c 105) (cond (nat_eq (get_or s 0 0) 102) 17 21) (cond (nat_eq c 119) 18 (cond (nat_eq c 115) 19 (cond (nat_eq c 101) 22 (cond (nat_eq c 108) 23 20)))))))))
 
--- the form that a text begins: 0 to 19, or 20 where there is none, or 21 for a declaration
+-- the form that a text begins, by a number; 20 where there is none, and 21 for a declaration
 abbrev pub kind_at : List ℕ → ℕ
 kind_at [] = 20
 kind_at (c ∷ s) =
@@ -198,6 +202,8 @@ kind (CStmt-F.ReadText p) = 8
 kind (CStmt-F.ReadNums p) = 9
 kind (CStmt-F.ReadCount x) = 3
 kind (CStmt-F.At name n) = 13
+kind CStmt-F.Enter = 22
+kind CStmt-F.Leave = 23
 kind (CStmt-F.Fault i) = 14
 kind (CStmt-F.Call n) = 15
 kind CStmt-F.Return = 16
@@ -220,6 +226,8 @@ kind_other (CStmt-F.ReadText p) = (refl, refl)
 kind_other (CStmt-F.ReadNums p) = (refl, refl)
 kind_other (CStmt-F.ReadCount x) = (refl, refl)
 kind_other (CStmt-F.At name n) = (refl, refl)
+kind_other CStmt-F.Enter = (refl, refl)
+kind_other CStmt-F.Leave = (refl, refl)
 kind_other (CStmt-F.Fault i) = (refl, refl)
 kind_other (CStmt-F.Call n) = (refl, refl)
 kind_other CStmt-F.Return = (refl, refl)
@@ -266,6 +274,8 @@ kind_is (CStmt-F.ReadText p) h k = kind_buf p _ h refl
 kind_is (CStmt-F.ReadNums p) h k = kind_buf p _ h refl
 kind_is (CStmt-F.ReadCount x) h k = kind_int x _ h refl
 kind_is (CStmt-F.At name n) h k = refl
+kind_is CStmt-F.Enter h k = refl
+kind_is CStmt-F.Leave h k = refl
 kind_is (CStmt-F.Fault i) h k = refl
 kind_is (CStmt-F.Call n) h k = let l = lt_of n (2 ^ 32) h in let d = decimal_first n (codes "();\n" ++ k) (omega (arith, l)) in ap (λ s. cond (is_digit (get_or s 0 0)) 15 14) d.1.1.0 ∙ ap (λ b. cond b 15 14) d.1.1.1
 kind_is CStmt-F.Return h k = refl
@@ -432,6 +442,12 @@ level_only (CStmt-F.At name n) (CStmt-F.At name' n') h g k m z =
     let r2 = append_cancel_left (codes ", ") _ _ r1.1 in
     let r3 = then_fixed words (codes ");\n") (λ k. refl) n n' h0.1 g0.1 _ _ r2 in
     (ap₂ (λ u v. roll-CStmt (CStmt-F.At u v)) r1.0 r3.0, r3.1)
+level_only CStmt-F.Enter CStmt-F.Enter h g k m z =
+    let r0 = append_cancel_left (codes "enter();\n") _ _ z in
+    (refl, r0)
+level_only CStmt-F.Leave CStmt-F.Leave h g k m z =
+    let r0 = append_cancel_left (codes "leave();\n") _ _ z in
+    (refl, r0)
 level_only (CStmt-F.Fault i) (CStmt-F.Fault i') h g k m z =
     let r0 = append_cancel_left (codes "fault(") _ _ z in
     let r1 = then_fixed indexes (codes ");\n") (λ k. refl) (fault_number i) (fault_number i') (fault_index i) (fault_index i') _ _ r0 in

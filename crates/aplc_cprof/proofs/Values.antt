@@ -188,6 +188,14 @@ unfolding size
 size_At name l = ap size (sym (stmt.rolls-At name l)) ∙ fold-roll-CStmt ℕ ℕ size_step size_arm (CStmt-F.At name l)
 
 -- a fault is one statement
+pub size_Enter : size stmt.Enter ≡ 1
+unfolding size
+size_Enter = ap size (sym stmt.rolls-Enter) ∙ fold-roll-CStmt ℕ ℕ size_step size_arm CStmt-F.Enter
+
+pub size_Leave : size stmt.Leave ≡ 1
+unfolding size
+size_Leave = ap size (sym stmt.rolls-Leave) ∙ fold-roll-CStmt ℕ ℕ size_step size_arm CStmt-F.Leave
+
 pub size_Fault : (k : FaultKind) → size (stmt.Fault k) ≡ 1
 unfolding size
 size_Fault k = ap size (sym (stmt.rolls-Fault k)) ∙ fold-roll-CStmt ℕ ℕ size_step size_arm (CStmt-F.Fault k)
@@ -235,4 +243,4 @@ size_Switch x arms d =
     ∙ ap (λ (f : Arm → ℕ). 1 + total (map f arms) + total (map size d)) (fun_ext size_Arm)
 
 -- the numbers of statements
-pub ruleset sizes = (size_Set, size_SetCell, size_SetBuf, size_Cells, size_Free, size_Check, size_Width, size_PutNum, size_PutChar, size_ReadText, size_ReadNums, size_ReadCount, size_At, size_Fault, size_Call, size_Return, size_If, size_While, size_Switch)
+pub ruleset sizes = (size_Set, size_SetCell, size_SetBuf, size_Cells, size_Free, size_Check, size_Width, size_PutNum, size_PutChar, size_ReadText, size_ReadNums, size_ReadCount, size_At, size_Enter, size_Leave, size_Fault, size_Call, size_Return, size_If, size_While, size_Switch)

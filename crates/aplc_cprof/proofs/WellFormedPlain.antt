@@ -219,6 +219,8 @@ stmt_level sc s (CStmt-F.ReadNums p) room h = buf_plain sc s p h
 stmt_level sc s (CStmt-F.ReadCount x) room h = int_plain sc s x h
 stmt_level sc s (CStmt-F.At name n) room h =
     each (is_name name) (formed.is_plain n) (is_quoteless name) (is_word n) (name_quoteless name) (plain_word n) h
+stmt_level sc s CStmt-F.Enter room h = refl
+stmt_level sc s CStmt-F.Leave room h = refl
 stmt_level sc s (CStmt-F.Fault k) room h = refl
 stmt_level sc s (CStmt-F.Call n) room h = below n sc.functions (2 ^ 32) h s.functions
 stmt_level sc s CStmt-F.Return room h = refl

@@ -76,6 +76,26 @@ bodies_from n (f ∷ fs) = numbered n f.body ∷ bodies_from (n + total (map siz
 abbrev pub code_of : CProgram → Code
 code_of p = record { tables = p.tables; bodies = bodies_from 1 p.functions }
 
+-- ---- Places
+
+-- where a run stands: a function of the source by its name, and its line
+pub record Place : Type 0 where
+  pub name : List ℕ
+  pub line : ℤ
+
+-- the innermost place, and those behind it from the inside out
+pub record Places : Type 0 where
+  pub here : Place
+  pub behind : List Place
+
+-- a place of no function yet
+abbrev pub empty_place : Place
+empty_place = record { name = []; line = pos 0 }
+
+-- there are this many places at most
+abbrev pub most_places : ℕ
+most_places = 4096
+
 -- ---- States
 
 -- a caller, as it stands until the call is over
@@ -85,7 +105,7 @@ pub record Caller : Type 0 where
   pub todo : Todo
 
 -- Buffers go by number, in the order in which they were made; a freed one has no cells.
--- An unset whole variable and a null buffer variable are None.
+-- An unset whole variable and a null buffer variable are None. The marks are the places set so far, in order.
 pub record State : Type 0 where
   pub ints : ℕ → Option ℤ
   pub bufs : ℕ → Option ℕ
@@ -94,8 +114,8 @@ pub record State : Type 0 where
   pub heap : List (Option (List ℤ))
   pub todo : Todo
   pub callers : List Caller
-  pub name : List ℕ
-  pub line : ℤ
+  pub places : Places
+  pub marks : List Place
   pub read_count : ℤ
   pub input : List ℕ
   pub output : List ℕ
@@ -120,7 +140,7 @@ abbrev pub first_body : List Todo → Todo
 first_body [] = []
 first_body (t ∷ ts) = t
 
--- at the start the frame of the first function stands, globals are 0, buffers are null
+-- at the start the frame of the first function stands, globals are 0, buffers are null, and there is one empty place
 abbrev pub initial : Code → List ℕ → State
 initial c input = record {
   ints = no_ints;
@@ -130,8 +150,8 @@ initial c input = record {
   heap = [];
   todo = first_body c.bodies;
   callers = [];
-  name = [];
-  line = pos 0;
+  places = record { here = empty_place; behind = [] };
+  marks = [];
   read_count = pos 0;
   input = input;
   output = [];
@@ -335,6 +355,22 @@ abbrev pub read_cells : Buf → InputLine → Todo → State → Next
 read_cells p (Line cells left) rest s = onward rest (with_line p cells left s)
 read_cells p (Unread k) rest s = Faulted k s
 
+-- the innermost place is set, and leaves a mark
+abbrev pub placed : Place → State → State
+placed here s = record s { places = record { here = here; behind = s.places.behind }; marks = s.marks ++ here ∷ [] }
+
+-- an empty place before the others
+abbrev pub deeper : Places → Places
+deeper p = record { here = empty_place; behind = p.here ∷ p.behind }
+
+abbrev pub enter_place : ℕ → Todo → State → Next
+enter_place n rest s = if nat_lt (1 + length s.places.behind) most_places then onward rest (record s { places = deeper s.places }) else Stuck Outside n s
+
+-- the innermost place goes; the last one stays
+abbrev pub leave_place : List Place → ℕ → Todo → State → Next
+leave_place [] n rest s = Stuck Outside n s
+leave_place (p ∷ ps) n rest s = onward rest (record s { places = record { here = p; behind = ps } })
+
 -- a call: a new frame before the caller's
 abbrev pub enter : Option Todo → ℕ → Todo → State → Next
 enter None n rest s = Stuck Outside n s
@@ -368,7 +404,9 @@ act c (CStmt-F.PutChar e) n st rest s = with_value (value e c.tables s) n s (λ 
 act c (CStmt-F.ReadText p) n st rest s = read_cells p (input_line s.input) rest s
 act c (CStmt-F.ReadNums p) n st rest s = read_cells p (number_line s.input) rest s
 act c (CStmt-F.ReadCount x) n st rest s = onward rest (set_int x s.read_count s)
-act c (CStmt-F.At name l) n st rest s = onward rest (record s { name = name; line = l })
+act c (CStmt-F.At name l) n st rest s = onward rest (placed (record { name = name; line = l }) s)
+act c CStmt-F.Enter n st rest s = enter_place n rest s
+act c CStmt-F.Leave n st rest s = leave_place s.places.behind n rest s
 act c (CStmt-F.Fault k) n st rest s = Faulted k s
 act c (CStmt-F.Call k) n st rest s = enter (slice_get c.bodies k) n rest s
 act c CStmt-F.Return n st rest s = leave s.callers s
@@ -403,6 +441,12 @@ and_then (Going s) go = go s
 and_then (Ended s) go = Ended s
 and_then (Faulted k s) go = Faulted k s
 and_then (Stuck c n s) go = Stuck c n s
+
+abbrev pub state_of : Next → State
+state_of (Going s) = s
+state_of (Ended s) = s
+state_of (Faulted k s) = s
+state_of (Stuck c n s) = s
 
 -- what stands after at most m steps
 abbrev pub run : Code → ℕ → State → Next

@@ -9,13 +9,20 @@ const PREAMBLE: &str = r#"#include <stdint.h>
 #include <stdlib.h>
 #define TOP INT64_C(9223372036854775807)
 static const char *const kinds[7] = {"DOMAIN", "INDEX", "LENGTH", "LIMIT", "RANK", "VALUE", "INPUT"};
-static const char *at_name = "";
-static int64_t at_line = 0;
+static const char *at_name[4096] = {""};
+static int64_t at_line[4096];
+static int64_t at_top = 0;
 static int64_t read_n = 0;
-static void at(const char *n, int64_t l) { at_name = n; at_line = l; }
+static void at(const char *n, int64_t l) { at_name[at_top] = n; at_line[at_top] = l; }
+static void enter(void) { at_top++; at_name[at_top] = ""; at_line[at_top] = 0; }
+static void leave(void) { at_top--; }
 static void fault(int64_t k) {
 fflush(stdout);
-fprintf(stderr, "%s ERROR %s[%lld]\n", kinds[k], at_name, (long long)at_line);
+fprintf(stderr, "%s ERROR %s[%lld]\n", kinds[k], at_name[at_top], (long long)at_line[at_top]);
+while (at_top > 0) {
+at_top--;
+fprintf(stderr, "FROM %s[%lld]\n", at_name[at_top], (long long)at_line[at_top]);
+}
 exit(1);
 }
 static void memory(void) { fflush(stdout); fputs("NO MEMORY\n", stderr); exit(7); }

@@ -157,6 +157,8 @@ fn put_stmt(out: &mut Vec<u8>, s: &CStmt) -> Result<(), AllocError>
         CStmt::ReadNums(p) => put_read_nums(out, *p),
         CStmt::ReadCount(x) => put_read_count(out, *x),
         CStmt::At(name, line) => put_at(out, name.as_slice(), *line),
+        CStmt::Enter => put(out, b"enter();\n"),
+        CStmt::Leave => put(out, b"leave();\n"),
         CStmt::Fault(kind) => put_fault(out, *kind),
         CStmt::Call(function) => put_call(out, *function),
         CStmt::Return => put(out, b"return;\n"),

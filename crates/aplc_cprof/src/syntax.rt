@@ -83,8 +83,12 @@ pub enum CStmt {
     ReadText(Buf),
     ReadNums(Buf),
     ReadCount(Int),
-    /// The APL function and line where the run stands.
+    /// The APL function and line where the run stands: the innermost place is this one, and a mark is left.
     At(List<u8>, i64),
+    /// A new innermost place, of no function yet.
+    Enter,
+    /// The innermost place goes, and the one behind it is the innermost again.
+    Leave,
     Fault(FaultKind),
     Call(u32),
     Return,

@@ -64,16 +64,16 @@ fn sample_program(alloc: Global) -> Result<CProgram, AllocError>
 fn prints_a_program(rt: HostRuntime) -> Result<(), Fail> {
     let program = sample_program(rt.alloc())?;
     let text = print(rt.alloc(), &program)?;
-    assert_eq!(rt; text.len(), 3155 + AFTER_PREAMBLE.len());
-    assert!(rt; &text[3155..] == AFTER_PREAMBLE.as_bytes());
-    assert!(rt; text[3154] == b'\n');
+    assert_eq!(rt; text.len(), 3457 + AFTER_PREAMBLE.len());
+    assert!(rt; &text[3457..] == AFTER_PREAMBLE.as_bytes());
+    assert!(rt; text[3456] == b'\n');
     Ok(())
 }
 
 #[test]
 fn preamble_is_whole(rt: HostRuntime) {
     let text = preamble_bytes();
-    assert_eq!(rt; text.len(), 3155);
+    assert_eq!(rt; text.len(), 3457);
     assert!(rt; text.starts_with(b"#include <stdint.h>\n#include <stdio.h>\n"));
     assert!(rt; text.ends_with(b"free(t);\nread_n = m;\nreturn p;\n}\n"));
 }

@@ -1,8 +1,8 @@
 -- Writes in pieces: what a sink or a text holds after one write and another, and after one that a fault cut short.
-use Rattle.std.proofs.Common.{◌≡◌, ℕ, zero, suc, ◌+◌, ◌-◌, ◌<◌, ◌≤◌, List, [], ◌∷◌, ◌++◌, length, take, drop, Option, None, Some, refl, sym, ap, subst, ◌∙◌, arith, append_assoc, append-nil, length-append, length-drop}
+use Rattle.std.proofs.Common.{◌≡◌, ℕ, zero, suc, ◌+◌, ◌-◌, ◌<◌, ◌≤◌, List, [], ◌∷◌, ◌++◌, length, take, drop, Option, None, Some, refl, sym, ap, subst, ◌∙◌, arith, append_assoc, append-nil, length-append, length-drop, length-take-le}
 use Rattle.std.proofs.lemmas.List.{take_all, take-append-le}
 use Rattle.std.proofs.Math.Seq.{take-append-add}
-use Rattle.aplc_io.specs.Outside.{SinkState, HostState, with, sink_with, SinkFails, text_with, TextFails, Rose}
+use Rattle.aplc_io.specs.Outside.{SinkState, HostState, with, sink_with, SinkFails, text_with, TextFails, Rose, more}
 use Rattle.aplc_io.specs.Parts.{PartWritten, PartOfText}
 
 take-none : (n : ℕ) → take {A = ℕ} n [] ≡ []
@@ -29,11 +29,19 @@ sink_with-nil s = ap (λ t. record { written = t; faults = s.faults }) (with-nil
 pub sink_with-with : (s : SinkState) (a b : List ℕ) → sink_with (sink_with s a) b ≡ sink_with s (a ++ b)
 sink_with-with s a b = ap (λ t. record { written = t; faults = s.faults }) (with-with s.written a b)
 
+more-none : (n : ℕ) → more n 0 ≡ n
+more-none n = omega arith
+
+more-more : (n a b : ℕ) → more (more n a) b ≡ more n (a + b)
+more-more n a b = omega arith
+
 pub text_with-nil : (h : HostState) → text_with h [] ≡ h
-text_with-nil h = ap (λ t. record h { text = t }) (with-nil h.text)
+text_with-nil h = ap (λ t. record h { text = t; put = more h.put 0 }) (with-nil h.text) ∙ ap (λ (n : ℕ). record h { put = n }) (more-none h.put)
 
 pub text_with-with : (h : HostState) (a b : List ℕ) → text_with (text_with h a) b ≡ text_with h (a ++ b)
-text_with-with h a b = ap (λ t. record h { text = t }) (with-with h.text a b)
+text_with-with h a b =
+    ap (λ t. record h { text = t; put = more (more h.put (length a)) (length b) }) (with-with h.text a b)
+    ∙ ap (λ (n : ℕ). record h { text = with h.text (a ++ b); put = n }) (more-more h.put (length a) (length b) ∙ ap (more h.put) (sym (length-append a b)))
 
 -- one step of a loop that writes `bytes` from `at` on
 module _ (bytes : List ℕ) (at : ℕ) where
@@ -65,15 +73,17 @@ module _ (bytes : List ℕ) (at : ℕ) where
   pub part_put : (old mid new : HostState) → at < length bytes → mid ≡ text_with old (take at bytes) → TextFails mid new → PartOfText bytes old new
   part_put old mid new short e fails =
       let same : mid.text_faults ≡ old.text_faults = ap (λ h. h.text_faults) e in
-      let whole : new ≡ record old { text = with old.text (take at bytes); text_faults = new.text_faults } = fails.same ∙ ap {A = HostState} (λ h. record h { text_faults = new.text_faults }) e in
+      let whole : new ≡ record (text_with old (take at bytes)) { text_faults = new.text_faults } = fails.same ∙ ap {A = HostState} (λ h. record h { text_faults = new.text_faults }) e in
       let text : new.text ≡ with old.text (take at bytes) = ap (λ h. h.text) whole in
+      let put : new.put ≡ more old.put (length (take at bytes)) = ap (λ h. h.put) whole in
       record {
         count = at;
         short = short;
         text = text;
+        put = put ∙ ap (more old.put) (length-take-le at bytes (let s = short in omega arith));
         rose = subst (λ n. Rose n new.text_faults) same fails.rose;
         later = subst (λ n. n ≤ new.text_faults) same fails.later;
-        same = whole ∙ ap (λ (t : Option (List ℕ)). record old { text = t; text_faults = new.text_faults }) (sym text);
+        same = whole ∙ ap (λ (t : Option (List ℕ)). record old { text = t; put = more old.put (length (take at bytes)); text_faults = new.text_faults }) (sym text) ∙ ap (λ (n : ℕ). record old { text = new.text; put = n; text_faults = new.text_faults }) (sym put);
       }
 
 -- a part of what comes first

@@ -1,6 +1,6 @@
 -- What stands outside the program: sources, sinks and a host, each with the faults that it has met.
 -- What an object does not tell is `None`, and stays so.
-use Rattle.std.specs.Prelude.{◌≡◌, ℕ, ◌+◌, ◌-◌, ◌^◌, ◌<◌, ◌≤◌, ◌⊎◌, Bool, List, [], ◌++◌, length, take, min, Option, None, Some, option_map, IfSome}
+use Rattle.std.specs.Prelude.{◌≡◌, ℕ, ◌+◌, ◌-◌, ◌^◌, ◌<◌, ◌≤◌, ◌⊎◌, Bool, List, [], ◌++◌, length, take, min, Option, None, Some, option_map, IfSome, true, false, nat_eq, Result, Ok, Err, ◌||◌}
 use Rattle.aplc_io.specs.declared.traits.FetchFault.{FetchFault}
 use Rattle.aplc_io.specs.declared.traits.FetchFault.TheVariants.{Failed, TooLong, Memory}
 
@@ -11,6 +11,20 @@ Rose before now = min (before + 1) (2 ^ 64 - 1) ≤ now
 -- the next number, which stays at the last one
 abbrev pub next : ℕ → ℕ
 next n = min (n + 1) (2 ^ 64 - 1)
+
+-- a count with n more, which stays at the last number
+abbrev pub more : ℕ → ℕ → ℕ
+more count n = count + min n (2 ^ 64 - 1 - count)
+
+-- an answer that nothing is left
+abbrev pub is_end : {E : Type 0} → Result ℕ E → Bool
+is_end (Ok n) = nat_eq n 0
+is_end (Err e) = false
+
+-- how many reads were made behind the end of the input, with one more
+abbrev pub later_read : Bool → ℕ → ℕ
+later_read true n = next n
+later_read false n = n
 
 -- where a text goes: the name, if one was given, and whether the text is also to be run
 pub record Target : Type 0 where
@@ -31,18 +45,21 @@ pub record SinkState : Type 0 where
   pub written : Option (List ℕ)
   pub faults : ℕ
 
--- a host: its files by name, its text and target (the inner `None`: no text was begun), the faults of
--- `fetch`, and those of the text
+-- a host: its files by name, its text and target (the inner `None`: no text was begun), the faults of `fetch` and
+-- those of the text; and how often `text_to` was called, and how many bytes of text were taken, since the host was
+-- made: nothing takes these two back
 pub record HostState : Type 0 where
   pub files : Option (List ℕ → Option (List ℕ))
   pub text : Option (List ℕ)
   pub target : Option (Option Target)
   pub fetch_faults : ℕ
   pub text_faults : ℕ
+  pub begun : ℕ
+  pub put : ℕ
 
 -- what is told, with more at its end
 abbrev pub with : Option (List ℕ) → List ℕ → Option (List ℕ)
-with told more = option_map (λ xs. xs ++ more) told
+with told rest = option_map (λ xs. xs ++ rest) told
 
 -- what is told, set to this
 abbrev pub set_to : {A : Type 0} → Option A → A → Option A
@@ -100,17 +117,17 @@ FetchStops Memory name limit old new = new ≡ old
 
 -- a text begins, with this target
 abbrev pub text_begun : HostState → Option (List ℕ) → Bool → HostState
-text_begun h name run = record h { text = set_to h.text []; target = set_to h.target (Some (target_of name run)) }
+text_begun h name run = record h { text = set_to h.text []; target = set_to h.target (Some (target_of name run)); begun = next h.begun }
 
 -- a text could not begin: it is empty, and the target stays
 pub record TextNotBegun (old new : HostState) : Type 0 where
   pub rose : Rose old.text_faults new.text_faults
   pub later : old.text_faults ≤ new.text_faults
-  pub same : new ≡ record old { text = set_to old.text []; text_faults = new.text_faults }
+  pub same : new ≡ record old { text = set_to old.text []; text_faults = new.text_faults; begun = next old.begun }
 
 -- a host whose text took these bytes, and that met no fault
 abbrev pub text_with : HostState → List ℕ → HostState
-text_with h bytes = record h { text = with h.text bytes }
+text_with h bytes = record h { text = with h.text bytes; put = more h.put (length bytes) }
 
 -- a fault of the text takes nothing
 pub record TextFails (old new : HostState) : Type 0 where

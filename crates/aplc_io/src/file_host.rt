@@ -1,8 +1,8 @@
 //! The host of the runtime: files, and the standard output for a text without a name.
 //! The calls are trusted, the faults are counted; it tells neither files nor text.
-ghost use Rattle.std.specs.Prelude.{None, false, ◌≡◌, ◌+◌, ◌<◌, ◌≤◌, length, take, Ok, IsNone, IsOk, IsErr, IfOk, IfErr, OnOk, OnErr, IsErrOf, option_map};
-ghost use Rattle.aplc_io.specs.Outside.{next, IsFile, FetchStops, text_begun, TextNotBegun, text_with, TextFails};
-ghost use Rattle.aplc_io.specs.Adapters.{route_of, runtime_state};
+ghost use Rattle.std.specs.Prelude.{None, false, ◌≡◌, ◌+◌, ◌<◌, ◌≤◌, length, take, Ok, IsNone, IsOk, IsErr, IfOk, IfErr, IfSome, OnOk, OnErr, IsErrOf, option_map};
+ghost use Rattle.aplc_io.specs.Outside.{next, more, IsFile, FetchStops, text_begun, TextNotBegun, text_with, TextFails};
+ghost use Rattle.aplc_io.specs.Adapters.{route_of, runtime_state, Took};
 ghost use Rattle.aplc_io.specs.Adapters.Route.{ToNowhere, ToFault};
 
 use crate::standard::write_some;
@@ -32,6 +32,9 @@ pub struct FsHost<'a> {
     fetch_faults: u64,
     text_faults: u64,
     taken: u128,
+    fetches: u64,
+    begun: u64,
+    put: u64,
 }
 
 impl<'a> Model for FsHost<'a> {
@@ -40,7 +43,7 @@ impl<'a> Model for FsHost<'a> {
 
     ghost Value = { RuntimeHost };
 
-    ghost view = { λ h. record { route = route h.place; fetch_faults = h.fetch_faults; text_faults = h.text_faults; taken = h.taken } };
+    ghost view = { λ h. record { route = route h.place; fetch_faults = h.fetch_faults; text_faults = h.text_faults; taken = h.taken; fetches = h.fetches; begun = h.begun; put = h.put } };
 }
 
 // All that a reader has, read to one byte past the limit at most, which `taken` counts.
@@ -54,6 +57,9 @@ fn read_within<R: Read>(
     ensures whole { IfOk result (λ v. taken.new ≡ length v.items) }
     ensures long { IsErrOf result FetchFault.TooLong → taken.new ≡ limit + 1 }
     ensures within { taken.new ≤ limit + 1 }
+    ensures took { Took (R.remaining reader.old) (R.remaining reader.new) taken.new }
+    ensures bytes { IfOk result (λ v. IfSome (R.remaining reader.old) (λ xs. v.items ≡ xs)) }
+    ensures more { IsErrOf result FetchFault.TooLong → IfSome (R.remaining reader.old) (λ xs. limit < length xs) }
 {
     let mut bytes = Vec::new(alloc);
     let mut piece = [0u8; PIECE];
@@ -82,7 +88,7 @@ fn read_within<R: Read>(
 impl<'a> FsHost<'a> {
     /// A host that has met no fault. A text goes to the standard output, as after `text_to(None, false)`.
     pub fn new(rt: &'a HostRuntime) -> FsHost<'a>
-        ensures { result ≡ record { route = route_of None false; fetch_faults = 0; text_faults = 0; taken = 0 } }
+        ensures { result ≡ record { route = route_of None false; fetch_faults = 0; text_faults = 0; taken = 0; fetches = 0; begun = 0; put = 0 } }
     {
         FsHost {
             rt,
@@ -90,16 +96,21 @@ impl<'a> FsHost<'a> {
             fetch_faults: 0,
             text_faults: 0,
             taken: 0,
+            fetches: 0,
+            begun: 0,
+            put: 0,
         }
     }
 }
 
 impl Host for FsHost<'_> {
-    ghost use Rattle.aplc_io.specs.Adapters.{runtime_state, runtime_taken};
+    ghost use Rattle.aplc_io.specs.Adapters.{runtime_state, runtime_taken, runtime_fetches};
 
     ghost state = { runtime_state };
 
     ghost taken = { runtime_taken };
+
+    ghost fetches = { runtime_fetches };
 
     fn fetch(&mut self, alloc: Global, name: &str, limit: u64) -> Result<Vec<u8>, FetchFault>
         ensures bound { IfOk result (λ v. length v.items ≤ limit) }
@@ -110,9 +121,11 @@ impl Host for FsHost<'_> {
         ensures whole { IfOk result (λ v. self.new.taken ≡ length v.items) }
         ensures long { IsErrOf result FetchFault.TooLong → self.new.taken ≡ limit + 1 }
         ensures within { self.new.taken ≤ limit + 1 }
+        ensures asked { self.new.fetches ≡ next self.old.fetches }
         ensures route { self.new.route ≡ self.old.route }
     {
         self.taken = 0;
+        self.fetches = self.fetches.saturating_add(1);
         let fetched = match File::open(self.rt, name) {
             Ok(mut file) => read_within(alloc, &mut file, limit, &mut self.taken),
             Err(_) => Err(FetchFault::Failed),
@@ -129,12 +142,14 @@ impl Host for FsHost<'_> {
         ensures fails { OnErr result
             (TextNotBegun (runtime_state self.old) (runtime_state self.new)) }
         ensures no_fetch { self.new.taken ≡ self.old.taken }
+        ensures unasked { self.new.fetches ≡ self.old.fetches }
         ensures nameless { IsNone name.entry → IsOk result }
         ensures ok { OnOk result (self.new ≡
-            record self.old { route = route_of (option_map (λ s. s.now) name.entry) run }) }
+            record self.old { route = route_of (option_map (λ s. s.now) name.entry) run; begun = next self.old.begun }) }
         ensures err { OnErr result (self.new ≡
-            record self.old { route = ToFault; text_faults = next self.old.text_faults }) }
+            record self.old { route = ToFault; text_faults = next self.old.text_faults; begun = next self.old.begun }) }
     {
+        self.begun = self.begun.saturating_add(1);
         match name {
             Some(name) => match File::create(self.rt, name) {
                 Ok(file) => self.place = Place::File(file),
@@ -157,9 +172,10 @@ impl Host for FsHost<'_> {
             (λ n. runtime_state self.new ≡ text_with (runtime_state self.old) (take n bytes.now)) }
         ensures fails { OnErr result (TextFails (runtime_state self.old) (runtime_state self.new)) }
         ensures no_fetch { self.new.taken ≡ self.old.taken }
+        ensures unasked { self.new.fetches ≡ self.old.fetches }
         ensures broken { self.old.route ≡ ToFault → IsErr result }
         ensures nowhere { self.old.route ≡ ToNowhere → result ≡ Ok (length bytes.now) }
-        ensures ok { OnOk result (self.new ≡ self.old) }
+        ensures ok { IfOk result (λ n. self.new ≡ record self.old { put = more self.old.put n }) }
         ensures err { OnErr result
             (self.new ≡ record self.old { text_faults = next self.old.text_faults }) }
     {
@@ -169,8 +185,9 @@ impl Host for FsHost<'_> {
             Place::Nowhere => Ok(bytes.len()),
             Place::Broken => Err(Failed),
         };
-        if written.is_err() {
-            self.text_faults = self.text_faults.saturating_add(1);
+        match written {
+            Ok(count) => self.put = self.put.saturating_add(count as u64),
+            Err(Failed) => self.text_faults = self.text_faults.saturating_add(1),
         }
         written
     }

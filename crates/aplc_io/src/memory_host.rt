@@ -35,6 +35,9 @@ pub struct MemHost {
     fetch_faults: u64,
     text_faults: u64,
     taken: u64,
+    fetches: u64,
+    begun: u64,
+    put: u64,
 }
 
 // The bytes of the file of this name.
@@ -89,6 +92,9 @@ impl Model for MemHost {
       fetch_faults = h.fetch_faults;
       text_faults = h.text_faults;
       taken = h.taken;
+      fetches = h.fetches;
+      begun = h.begun;
+      put = h.put;
     } };
 
     ghost invariant = { λ h. (length h.text.items ≤ h.room) × (h.room ≤ vec_capacity h.text) × (255 ≤ vec_capacity h.name) };
@@ -114,6 +120,9 @@ impl MemHost {
             fetch_faults: 0,
             text_faults: 0,
             taken: 0,
+            fetches: 0,
+            begun: 0,
+            put: 0,
         })
     }
 
@@ -166,11 +175,13 @@ impl MemHost {
 }
 
 impl Host for MemHost {
-    ghost use Rattle.aplc_io.specs.Memory.{host_state, host_taken};
+    ghost use Rattle.aplc_io.specs.Memory.{host_state, host_taken, host_fetches};
 
     ghost state = { host_state };
 
     ghost taken = { host_taken };
+
+    ghost fetches = { host_fetches };
 
     fn fetch(&mut self, alloc: Global, name: &str, limit: u64) -> Result<Vec<u8>, FetchFault>
         ensures bound { IfOk result (λ v. length v.items ≤ limit) }
@@ -184,6 +195,7 @@ impl Host for MemHost {
     {
         self.calls = self.calls.saturating_add(1);
         self.taken = 0;
+        self.fetches = self.fetches.saturating_add(1);
         if self.fails.contains(&self.calls) {
             self.fetch_faults = self.fetch_faults.saturating_add(1);
             return Err(FetchFault::Failed);
@@ -210,6 +222,7 @@ impl Host for MemHost {
         ensures err { OnErr result (self.new ≡ text_refused self.old) }
     {
         self.calls = self.calls.saturating_add(1);
+        self.begun = self.begun.saturating_add(1);
         self.text.clear();
         if self.fails.contains(&self.calls) {
             self.text_faults = self.text_faults.saturating_add(1);
@@ -246,7 +259,10 @@ impl Host for MemHost {
         }
         let count = bytes.len().min(self.room - self.text.len());
         match self.text.extend_from_slice(&bytes[..count]) {
-            Ok(()) => Ok(count),
+            Ok(()) => {
+                self.put = self.put.saturating_add(count as u64);
+                Ok(count)
+            }
             Err(_) => unreachable!(),
         }
     }

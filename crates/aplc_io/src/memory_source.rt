@@ -1,7 +1,7 @@
 //! A source whose bytes lie in memory, for tests: it tells what is left, and fails when it is told to.
 //! It knows nothing of what the bytes mean.
-ghost use Rattle.std.specs.Prelude.{◌≡◌, ◌<◌, ◌≤◌, ◌↔◌, length, take, drop, min, IsErr, IfOk, OnErr};
-ghost use Rattle.aplc_io.specs.Outside.{SourceGives, SourceFails, IsAtEnd};
+ghost use Rattle.std.specs.Prelude.{◌≡◌, ◌<◌, ◌≤◌, ◌↔◌, length, take, drop, min, false, IsErr, IfOk, OnErr};
+ghost use Rattle.aplc_io.specs.Outside.{SourceGives, SourceFails, IsAtEnd, later_read};
 ghost use Rattle.aplc_io.specs.Memory.{source_state, SourceCallFails, source_failed, source_gave};
 
 use crate::{Failed, Source};
@@ -16,6 +16,8 @@ pub struct MemSource {
     fails: Vec<u64>,
     calls: u64,
     faults: u64,
+    met: bool,
+    late: u64,
 }
 
 impl Model for MemSource {
@@ -24,15 +26,22 @@ impl Model for MemSource {
 
     ghost Value = { SourceMemory };
 
-    ghost view = { λ s. record { left = drop s.at s.bytes.items; fails = s.fails.items; calls = s.calls; faults = s.faults } };
+    ghost view = { λ s. record { left = drop s.at s.bytes.items; fails = s.fails.items; calls = s.calls; faults = s.faults; met = s.met; late = s.late } };
 
     ghost invariant = { λ s. s.at ≤ length s.bytes.items };
+}
+
+// How many reads were made behind the end, with one more.
+pub(crate) fn later_read(met: bool, late: u64) -> u64
+    ensures { result ≡ later_read met late }
+{
+    if met { late.saturating_add(1) } else { late }
 }
 
 impl MemSource {
     /// A source that gives these bytes, and fails at these calls.
     pub fn new(bytes: Vec<u8>, fails: Vec<u64>) -> MemSource
-        ensures { result ≡ record { left = bytes.items; fails = fails.items; calls = 0; faults = 0 } }
+        ensures { result ≡ record { left = bytes.items; fails = fails.items; calls = 0; faults = 0; met = false; late = 0 } }
     {
         MemSource {
             bytes,
@@ -40,6 +49,8 @@ impl MemSource {
             fails,
             calls: 0,
             faults: 0,
+            met: false,
+            late: 0,
         }
     }
 
@@ -53,6 +64,10 @@ impl MemSource {
 
 impl Source for MemSource {
     ghost state = { source_state };
+
+    ghost met = { λ s. s.met };
+
+    ghost late = { λ s. s.late };
 
     /// Gives as many bytes as are left and fit into `buf`.
     fn read(&mut self, buf: &mut [u8]) -> Result<usize, Failed>
@@ -69,6 +84,7 @@ impl Source for MemSource {
         ensures untouched { OnErr result (buf.new ≡ buf.old) }
     {
         self.calls = self.calls.saturating_add(1);
+        self.late = later_read(self.met, self.late);
         if self.fails.contains(&self.calls) {
             self.faults = self.faults.saturating_add(1);
             return Err(Failed);
@@ -77,6 +93,7 @@ impl Source for MemSource {
         let count = rest.len().min(buf.len());
         buf[..count].copy_from_slice(&rest[..count]);
         self.at += count;
+        self.met = self.met || count == 0;
         Ok(count)
     }
 }

@@ -40,6 +40,7 @@ pub fn put_all<H: Host>(host: &mut H, bytes: &[u8]) -> Result<(), Failed>
     ensures whole { OnOk result (H.state host.new ≡ text_with (H.state host.old) bytes.now) }
     ensures part { OnErr result (PartOfText bytes.now (H.state host.old) (H.state host.new)) }
     ensures no_fetch { H.taken host.new ≡ H.taken host.old }
+    ensures unasked { H.fetches host.new ≡ H.fetches host.old }
 {
     let mut at = 0;
     while at < bytes.len() {

@@ -116,3 +116,38 @@ fn adapters(rt: HostRuntime) -> Result<(), Fail> {
     assert_eq!(rt; host.put_text(b"ab"), Err(Failed));
     Ok(())
 }
+
+#[test]
+fn files_and_bytes(rt: HostRuntime) -> Result<(), Fail> {
+    let alloc = rt.alloc();
+    let mut bytes = Vec::new(alloc);
+    for i in 0..10_000u32 {
+        bytes.push((i % 251) as u8)?;
+    }
+    let mut host = FsHost::new(&rt);
+    assert_eq!(rt; host.text_to(Some("written"), false), Ok(()));
+    assert_eq!(rt; put_all(&mut host, bytes.as_slice()), Ok(()));
+    let again = host.fetch(alloc, "written", 10_000)?;
+    assert!(rt; again.as_slice() == bytes.as_slice());
+    assert!(rt; matches!(host.fetch(alloc, "written", 9_999), Err(FetchFault::TooLong)));
+    Ok(())
+}
+
+#[test]
+fn adapters_move_bytes(rt: HostRuntime) -> Result<(), Fail> {
+    let alloc = rt.alloc();
+    let mut source = StdSource::new(b"abc".as_slice());
+    let mut buf = [0; 2];
+    assert_eq!(rt; source.read(&mut buf), Ok(2));
+    assert_eq!(rt; buf, *b"ab");
+    assert_eq!(rt; source.read(&mut buf), Ok(1));
+    assert_eq!(rt; buf, *b"cb");
+    assert_eq!(rt; source.read(&mut buf), Ok(0));
+    let mut held: Vec<u8> = Vec::new(alloc);
+    let mut sink = StdSink::new(&mut held);
+    assert_eq!(rt; write_all(&mut sink, b"ab"), Ok(()));
+    assert_eq!(rt; write_all(&mut sink, b"c"), Ok(()));
+    drop(sink);
+    assert_eq!(rt; held.as_slice(), b"abc".as_slice());
+    Ok(())
+}

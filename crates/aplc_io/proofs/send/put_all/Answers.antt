@@ -7,4 +7,5 @@ loop-at-preserved g c = record {
   within = omega (arith, c.in_ok-at.ensures.bound);
   sent = slice_put c.args.bytes.now c.loop-at.at _ _ _ c.in_ok-at.field-0 c.loop-at.invariant.sent c.in_ok-at.ensures.takes;
   no_fetch = c.put_text.ensures.no_fetch ∙ c.loop-at.invariant.no_fetch;
+  unasked = c.put_text.ensures.unasked ∙ c.loop-at.invariant.unasked;
 }

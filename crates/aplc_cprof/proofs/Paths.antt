@@ -17,7 +17,7 @@ use Rattle.aplc_cprof.specs.declared.syntax.StuckCause.{StuckCause}
 use Rattle.aplc_cprof.specs.declared.syntax.CExpr.{CExpr}
 use Rattle.aplc_cprof.specs.declared.syntax.CStmt.{CStmt}
 use Rattle.aplc_cprof.specs.declared.syntax.CStmt.TheVariants as stmt
-use Rattle.aplc_cprof.specs.Machine.{total, size, numbered, numbered_if, is_zero, chosen, read_int, named_buf, buf_or_null, set_buf, text_width, code_of, initial, first_body, bodies_from, no_ints, no_bufs, Place, most_places, placed, deeper, Todo, Code, State, Is, Bad, Going, Ended, Faulted, ranged, exact, set_int, with_line, padded_text, is_scalar, value, settled, step, and_then, run}
+use Rattle.aplc_cprof.specs.Machine.{total, size, numbered, numbered_if, is_zero, chosen, read_int, named_buf, buf_or_null, set_buf, text_width, code_of, initial, first_body, bodies_from, no_ints, no_bufs, Place, all_places, most_places, placed, deeper, Todo, Code, State, Is, Bad, Going, Ended, Faulted, ranged, exact, set_int, with_line, padded_text, is_scalar, value, settled, step, and_then, run}
 use Rattle.aplc_cprof.specs.Behaviour.{shown, behaviour}
 use Rattle.aplc_cprof.specs.Behaviour as standing
 use Rattle.aplc_cprof.proofs.Values.{value_todo}
@@ -253,7 +253,7 @@ module _ (c : Code) where
       (λ rest. refl)
 
   -- an empty place before the others, where fewer than 4,096 stand
-  pub does_Enter : (Q : State → Type 0) (s : State) (Post : State → Type 0) (Fail : FaultKind → State → Type 0) → 1 + length s.places.behind < most_places → ((rest : Todo) → Q (settled (record s { todo = rest; places = deeper s.places }))) → ((rest : Todo) → Post (settled (record s { todo = rest; places = deeper s.places }))) → Does Q 1 (stmt.Enter ∷ []) s Post Fail
+  pub does_Enter : (Q : State → Type 0) (s : State) (Post : State → Type 0) (Fail : FaultKind → State → Type 0) → length (all_places s.places) < most_places → ((rest : Todo) → Q (settled (record s { todo = rest; places = deeper s.places }))) → ((rest : Todo) → Post (settled (record s { todo = rest; places = deeper s.places }))) → Does Q 1 (stmt.Enter ∷ []) s Post Fail
   does_Enter Q s Post Fail lt =
       does_step Q stmt.Enter s Post Fail (λ rest. settled (record s { todo = rest; places = deeper s.places }))
       (λ n rest. step_Enter c n rest (record s { todo = (n, stmt.Enter) ∷ rest }) refl lt)

@@ -15,7 +15,7 @@ use Rattle.aplc_cprof.specs.declared.syntax.StuckCause.{StuckCause}
 use Rattle.aplc_cprof.specs.declared.syntax.StuckCause.TheVariants.{Range, Outside}
 use Rattle.aplc_scalar.specs.Number.{number_text}
 use Rattle.aplc_scalar.specs.Input.{Line, Unread, input_line, number_line}
-use Rattle.aplc_cprof.specs.Machine.{total, size, numbered, numbered_if, is_zero, chosen, no_ints, no_bufs, read_int, named_buf, set_buf, buf_or_null, text_width, new_cells, write_cell, write_live, with_line, read_cells, free_named, free_cells, enter, Place, Places, most_places, placed, deeper, leave_place, Caller, Todo, Code, State, Value, Is, Bad, Next, Going, Ended, Faulted, Stuck, value, ranged, exact, set_int, onward, with_value, limit_or, padded_text, printed, put_number, put_character, is_scalar, leave, act, due, settled, settled_next, step, and_then, run}
+use Rattle.aplc_cprof.specs.Machine.{total, size, numbered, numbered_if, is_zero, chosen, no_ints, no_bufs, read_int, named_buf, set_buf, buf_or_null, text_width, new_cells, write_cell, write_live, with_line, read_cells, free_named, free_cells, enter, Place, Places, all_places, most_places, placed, deeper, leave_place, Caller, Todo, Code, State, Value, Is, Bad, Next, Going, Ended, Faulted, Stuck, value, ranged, exact, set_int, onward, with_value, limit_or, padded_text, printed, put_number, put_character, is_scalar, leave, act, due, settled, settled_next, step, and_then, run}
 
 goes : (c : Code) (k m : ℕ) (x : Next) → ((s : State) → run c (k + m) s ≡ and_then (run c k s) (run c m)) → and_then x (run c (k + m)) ≡ and_then (and_then x (run c k)) (run c m)
 goes c k m (Going s) ih = ih s
@@ -83,9 +83,9 @@ pub step_At : (c : Code) (n : ℕ) (name : List ℕ) (l : ℤ) (rest : Todo) (s 
 step_At c n name l rest s h = step_act c n (stmt.At name l) (CStmt-F.At name l) rest s (onward rest (placed (record { name = name; line = l }) s)) h (stmt.outs-At name l) refl
 
 -- an empty place before the others, where fewer than 4,096 stand
-pub step_Enter : (c : Code) (n : ℕ) (rest : Todo) (s : State) → s.todo ≡ (n, stmt.Enter) ∷ rest → 1 + length s.places.behind < most_places → step c s ≡ Going (settled (record s { todo = rest; places = deeper s.places }))
+pub step_Enter : (c : Code) (n : ℕ) (rest : Todo) (s : State) → s.todo ≡ (n, stmt.Enter) ∷ rest → length (all_places s.places) < most_places → step c s ≡ Going (settled (record s { todo = rest; places = deeper s.places }))
 step_Enter c n rest s h lt =
-    let few : nat_lt (1 + length s.places.behind) most_places ≡ true = grind (arith, lt) in
+    let few : nat_lt (length (all_places s.places)) most_places ≡ true = grind (arith, lt) in
     step_act c n stmt.Enter CStmt-F.Enter rest s (onward rest (record s { places = deeper s.places })) h stmt.outs-Enter
     (ap (λ b. cond b (onward rest (record s { places = deeper s.places })) (Stuck Outside n s)) few)
 

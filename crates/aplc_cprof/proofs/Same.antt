@@ -11,7 +11,7 @@ use Rattle.aplc_cprof.specs.declared.syntax.Arm.{Arm}
 use Rattle.aplc_cprof.specs.declared.syntax.CStmt.{CStmt, out-CStmt}
 use Rattle.aplc_cprof.specs.declared.syntax.CStmt.TheOpen.{CStmt-F}
 use Rattle.aplc_cprof.specs.declared.syntax.CProgram.{CProgram}
-use Rattle.aplc_cprof.specs.Machine.{Todo, Code, Caller, State, Value, Is, Bad, Next, value, ranged, exact, read_int, named_buf, buf_or_null, set_int, set_buf, onward, with_value, limit_or, padded_text, printed, put_number, put_character, is_scalar, new_cells, free_cells, free_named, write_place, write_live, write_cell, read_cells, enter, leave, Place, most_places, deeper, enter_place, leave_place, state_of, act, due, settled_next, step, and_then, run, code_of, initial}
+use Rattle.aplc_cprof.specs.Machine.{Todo, Code, Caller, State, Value, Is, Bad, Next, value, ranged, exact, read_int, named_buf, buf_or_null, set_int, set_buf, onward, with_value, limit_or, padded_text, printed, put_number, put_character, is_scalar, new_cells, free_cells, free_named, write_place, write_live, write_cell, read_cells, enter, leave, Place, all_places, most_places, deeper, enter_place, leave_place, state_of, act, due, settled_next, step, and_then, run, code_of, initial}
 use Rattle.aplc_cprof.specs.Machine as machine
 use Rattle.aplc_cprof.specs.Behaviour.{Standing, Ended, Faulted, Going, Stuck, shown, behaviour, after, output, marks, IsGoing, IsStuck, IsPrefix, IsPartOf, Agrees, Alike}
 use Rattle.aplc_cprof.proofs.Runs.{run_sum}
@@ -117,7 +117,7 @@ extends_leave [] s = kept s
 extends_leave (c ∷ cs) s = kept s
 
 extends_enter_place : (n : ℕ) (rest : Todo) (s : State) → Extends s (enter_place n rest s)
-extends_enter_place n rest s = extends_if s (nat_lt (1 + length s.places.behind) most_places) (onward rest (record s { places = deeper s.places })) (machine.Stuck _ n s) (kept s) (kept s)
+extends_enter_place n rest s = extends_if s (nat_lt (length (all_places s.places)) most_places) (onward rest (record s { places = deeper s.places })) (machine.Stuck _ n s) (kept s) (kept s)
 
 extends_leave_place : (ps : List Place) (n : ℕ) (rest : Todo) (s : State) → Extends s (leave_place ps n rest s)
 extends_leave_place [] n rest s = kept s

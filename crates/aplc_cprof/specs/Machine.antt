@@ -92,6 +92,10 @@ pub record Places : Type 0 where
 abbrev pub empty_place : Place
 empty_place = record { name = []; line = pos 0 }
 
+-- all of them
+abbrev pub all_places : Places → List Place
+all_places p = p.here ∷ p.behind
+
 -- there are this many places at most
 abbrev pub most_places : ℕ
 most_places = 4096
@@ -364,7 +368,7 @@ abbrev pub deeper : Places → Places
 deeper p = record { here = empty_place; behind = p.here ∷ p.behind }
 
 abbrev pub enter_place : ℕ → Todo → State → Next
-enter_place n rest s = if nat_lt (1 + length s.places.behind) most_places then onward rest (record s { places = deeper s.places }) else Stuck Outside n s
+enter_place n rest s = if nat_lt (length (all_places s.places)) most_places then onward rest (record s { places = deeper s.places }) else Stuck Outside n s
 
 -- the innermost place goes; the last one stays
 abbrev pub leave_place : List Place → ℕ → Todo → State → Next

@@ -95,6 +95,7 @@ fn fetch<S: Source>(
 ) -> Result<(), Missing>
     requires room { 0 < length piece.old }
     requires unmet { ended.old ≡ false }
+    ensures once { S.met input.old ≡ false → (S.met input.new ≡ ended.new) × (S.late input.new ≡ S.late input.old) }
     ensures fetched { OnOk result (Fetched ahead.old.items (S.state input.old) ahead.new.items ended.new (S.state input.new)) }
     ensures kept { IsErrOf result Missing.Memory → (ahead.new.items ≡ ahead.old.items) × (ended.new ≡ ended.old) × (S.state input.new ≡ S.state input.old) }
     ensures failed { IsErrOf result Missing.Read → (ahead.new.items ≡ ahead.old.items) × (ended.new ≡ ended.old) × SourceFails (S.state input.old) (S.state input.new) }
@@ -124,6 +125,7 @@ pub fn gather<S: Source>(
     ended: &mut bool,
     input: &mut S,
 ) -> Result<Found, Missing>
+    ensures once { S.met input.old ≡ ended.old → (S.met input.new ≡ ended.new) × (S.late input.new ≡ S.late input.old) }
     ensures found { IfOk result (λ f. IsFound ahead.new.items ended.new f) }
     ensures gathered { OnOk result (Gathered ahead.old.items ended.old (S.state input.old) ahead.new.items ended.new (S.state input.new)) }
     ensures memory { IsErrOf result Missing.Memory → Gathered ahead.old.items ended.old (S.state input.old) ahead.new.items ended.new (S.state input.new) }

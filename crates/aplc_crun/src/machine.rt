@@ -137,6 +137,7 @@ impl Machine {
         requires can { CanRun self.old }
         requires room { self.old.live.steps + budget < 2 ^ 64 }
         ensures most { self.new.live.steps ≤ self.old.live.steps + budget }
+        ensures once { S.met input.old ≡ self.old.ended → (S.met input.new ≡ self.new.ended) × (S.late input.new ≡ S.late input.old) }
         ensures ran { Ran self.old (S.state input.old) (O.state out.old) budget self.new (S.state input.new) (O.state out.new) result }
         ensures again { CanRun self.new ↔ (result ≡ Err RunStop.Spent) }
     {

@@ -85,6 +85,7 @@ fn take_line(machine: &mut Machine, extent: Extent) -> Result<(), RunStop>
     requires due { ReadIsDue (slice_get machine.old.laid.nodes.items machine.old.live.at) }
     requires line { IsLine machine.old.ahead.items machine.old.ended extent }
     requires room { machine.old.live.steps + 1 < 2 ^ 64 }
+    ensures ended { machine.new.ended ≡ machine.old.ended }
     ensures took { OnOk result (Stepped machine.old verdict.Going 1 machine.new) }
     ensures untaken { IfErr result (λ e. Untaken machine.old e machine.new) }
 {
@@ -112,6 +113,7 @@ pub fn read_due<S: Source>(machine: &mut Machine, input: &mut S) -> Result<(), R
     requires due { ReadIsDue (slice_get machine.old.laid.nodes.items machine.old.live.at) }
     requires room { machine.old.live.steps + 1 < 2 ^ 64 }
     requires empty { machine.old.live.out.bytes.items ≡ [] }
+    ensures once { S.met input.old ≡ machine.old.ended → (S.met input.new ≡ machine.new.ended) × (S.late input.new ≡ S.late input.old) }
     ensures later { machine.old.live.steps ≤ machine.new.live.steps }
     ensures most { machine.new.live.steps ≤ machine.old.live.steps + 1 }
     ensures ready { machine.new.ready ≡ machine.old.ready }

@@ -23,6 +23,7 @@ fn turn<S: Source, O: Sink>(
     requires can { CanRun machine.old }
     requires room { machine.old.live.steps + budget < 2 ^ 64 }
     ensures most { machine.new.live.steps ≤ machine.old.live.steps + budget }
+    ensures once { S.met input.old ≡ machine.old.ended → (S.met input.new ≡ machine.new.ended) × (S.late input.new ≡ S.late input.old) }
     ensures can { CanRun machine.new }
     ensures more { IfNone result (machine.old.live.steps < machine.new.live.steps) }
     ensures went { IfNone result (Went machine.old (S.state input.old) (S.state input.new) (O.state out.old) (O.state out.new) [] verdict.Held machine.new) }
@@ -52,6 +53,7 @@ pub fn turns<S: Source, O: Sink>(
     requires can { CanRun machine.old }
     requires room { machine.old.live.steps + budget < 2 ^ 64 }
     ensures most { machine.new.live.steps ≤ machine.old.live.steps + budget }
+    ensures once { S.met input.old ≡ machine.old.ended → (S.met input.new ≡ machine.new.ended) × (S.late input.new ≡ S.late input.old) }
     ensures can { CanRun machine.new }
     ensures ran { Ran machine.old (S.state input.old) (O.state out.old) budget machine.new (S.state input.new) (O.state out.new) result }
 {

@@ -22,5 +22,6 @@ pieces-preserved g c =
     record {
       within = omega arith;
       clear = subst (λ n. has_line_feed (take n c.fetch.new.ahead.items) ≡ false) len (clear_on _ _ _ _ _ none c.in-Ok.ensures.fetched);
+      once = λ same. let p = c.pieces.invariant.once same in let q = c.fetch.ensures.once (p.0 ∙ unmet) in (q.0, q.1 ∙ p.1);
       gathered = gathered_on _ _ _ _ _ _ _ _ _ unmet c.pieces.invariant.gathered c.in-Ok.ensures.fetched;
     }

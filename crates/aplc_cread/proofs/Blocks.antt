@@ -10,8 +10,8 @@ use Rattle.aplc_cprof.specs.declared.syntax.CStmt.{CStmt}
 use Rattle.aplc_cprof.specs.declared.syntax.CStmt.TheVariants as st
 use Rattle.aplc_cprof.specs.Text.{expr_text, int_name, buf_name, stmt_text, stmts_text, arms_text}
 use Rattle.aplc_cprof.specs.WellFormed.{Scope, is_expr, is_int, is_name, inside, rise, arms_fit, is_stmt, arm_test, are_stmts}
-use Rattle.aplc_cprof.proofs.Equations.{text_Free, text_PutNum, text_PutChar, text_At, text_Return, text_If, text_While, text_Switch}
-use Rattle.aplc_cprof.proofs.Forms.{is_Free, is_PutNum, is_PutChar, is_At, is_Return, is_If, is_While, is_Switch}
+use Rattle.aplc_cprof.proofs.Equations.{text_Free, text_PutNum, text_PutChar, text_At, text_Enter, text_Leave, text_Return, text_If, text_While, text_Switch}
+use Rattle.aplc_cprof.proofs.Forms.{is_Free, is_PutNum, is_PutChar, is_At, is_Enter, is_Leave, is_Return, is_If, is_While, is_Switch}
 use Rattle.aplc_cread.specs.Reading.{Found, Any, Lit, Bind, OneOf, Halts, Reads, Map}
 use Rattle.aplc_cread.specs.Exprs.{ExprThen, Inner, IsInner}
 use Rattle.aplc_cread.specs.Stmts.{Block, BlockThen, IntThen, two, else_texts, ElseBehind, IfBehind, WhileBehind, Arms, SwitchBehind, keywords, has_room, has_rooms, some_of, may, StmtBehind, BlockBehind, openings, opening_may}
@@ -45,62 +45,70 @@ if_join sc room r e a (suc zero) s t b w n h g o m q =
     else_text e a d = else_left (codes "if (") e (codes ") {\n") a (codes "} else {\n") d (codes "}\n") ∙ sym (if_parts (codes "if (") e (codes ") {\n") a (codes "}") (codes " else {\n" ++ (d ++ (codes "}" ++ codes "\n"))))
 if_join sc room r e a (suc (suc i)) s t b w n h g o m q = absurd (omega (arith, o.within))
 
-pub join_stmt : (sc : Scope) (room : Option ℕ) (k : ℕ) (s : CStmt) (w : List ℕ) → suc k < 14 → StmtBehind sc room k s w → Joined sc room (get_or keywords (suc k) []) s w
+pub join_stmt : (sc : Scope) (room : Option ℕ) (k : ℕ) (s : CStmt) (w : List ℕ) → suc k < 16 → StmtBehind sc room k s w → Joined sc room (get_or keywords (suc k) []) s w
 join_stmt sc room zero s w l m = record {
   fits = subst IsTrue (sym (ap (λ s. is_stmt sc s room) m.0 ∙ is_Return sc room)) refl;
   text = ap stmt_text m.0 ∙ text_Return ∙ ap (λ x. codes "return;\n" ++ x) (sym m.1);
 }
-join_stmt sc room (suc zero) s w l m =
+join_stmt sc room (suc zero) s w l m = record {
+  fits = subst IsTrue (sym (ap (λ s. is_stmt sc s room) m.0 ∙ is_Enter sc room)) refl;
+  text = ap stmt_text m.0 ∙ text_Enter ∙ ap (λ x. codes "enter();\n" ++ x) (sym m.1);
+}
+join_stmt sc room (suc (suc zero)) s w l m = record {
+  fits = subst IsTrue (sym (ap (λ s. is_stmt sc s room) m.0 ∙ is_Leave sc room)) refl;
+  text = ap stmt_text m.0 ∙ text_Leave ∙ ap (λ x. codes "leave();\n" ++ x) (sym m.1);
+}
+join_stmt sc room (suc (suc (suc zero))) s w l m =
     let n = m.part in
     let j = assigned_join sc room (int.Local n) m.goes_on.0 s m.back (of_lt n sc.ints m.begins.below) m.goes_on.1 in record {
       fits = j.fits;
       text = j.text ∙ ap (λ y. y ++ (codes " = " ++ m.back)) (name_v n) ∙ ap (λ y. codes "v" ++ y) (sym (m.whole ∙ ap (λ y. y ++ m.back) m.begins.text ∙ append_assoc (decimal n) (codes " = ") m.back));
     }
-join_stmt sc room (suc (suc zero)) s w l m =
+join_stmt sc room (suc (suc (suc (suc zero)))) s w l m =
     let n = m.part in
     let j = assigned_join sc room (int.Global n) m.goes_on.0 s m.back (of_lt n sc.global_ints m.begins.below) m.goes_on.1 in record {
       fits = j.fits;
       text = j.text ∙ ap (λ y. y ++ (codes " = " ++ m.back)) (name_g n) ∙ ap (λ y. codes "g" ++ y) (sym (m.whole ∙ ap (λ y. y ++ m.back) m.begins.text ∙ append_assoc (decimal n) (codes " = ") m.back));
     }
-join_stmt sc room (suc (suc (suc zero))) s w l m =
+join_stmt sc room (suc (suc (suc (suc (suc zero))))) s w l m =
     let n = m.part.0 in
     let j = stored_join sc room (buf.Local n) m.part.1 s m.begins.back m.back (of_lt n sc.bufs m.begins.below) m.begins.sign m.goes_on in record {
       fits = j.fits;
       text = j.text ∙ ap (λ y. y ++ (m.begins.back ++ m.back)) (name_b n) ∙ ap (λ y. codes "b" ++ y) (sym (m.whole ∙ ap (λ y. y ++ m.back) m.begins.text ∙ append_assoc (decimal n) m.begins.back m.back));
     }
-join_stmt sc room (suc (suc (suc (suc zero)))) s w l m =
+join_stmt sc room (suc (suc (suc (suc (suc (suc zero)))))) s w l m =
     let n = m.part.0 in
     let j = stored_join sc room (buf.Global n) m.part.1 s m.begins.back m.back (of_lt n sc.global_bufs m.begins.below) m.begins.sign m.goes_on in record {
       fits = j.fits;
       text = j.text ∙ ap (λ y. y ++ (m.begins.back ++ m.back)) (name_h n) ∙ ap (λ y. codes "h" ++ y) (sym (m.whole ∙ ap (λ y. y ++ m.back) m.begins.text ∙ append_assoc (decimal n) m.begins.back m.back));
     }
-join_stmt sc room (suc (suc (suc (suc (suc zero))))) s w l m =
+join_stmt sc room (suc (suc (suc (suc (suc (suc (suc zero))))))) s w l m =
     let p = m.part in record {
       fits = subst IsTrue (sym (ap (λ s. is_stmt sc s room) m.is ∙ is_Free sc p room)) m.of.fits;
       text = ap stmt_text m.is ∙ text_Free p ∙ append_assoc (codes "drop(") (buf_name p) (codes ");\n") ∙ ap (λ y. codes "drop(" ++ y) (sym m.of.text);
     }
-join_stmt sc room (suc (suc (suc (suc (suc (suc zero)))))) s w l m =
+join_stmt sc room (suc (suc (suc (suc (suc (suc (suc (suc zero)))))))) s w l m =
     let e = m.part.0 in let f = m.part.1 in record {
       fits = subst IsTrue (sym (ap (λ s. is_stmt sc s room) m.is ∙ is_PutNum sc e f room)) (and_both (is_expr sc e room) (is_expr sc f room) m.of.left m.of.right);
       text = ap stmt_text m.is ∙ text_PutNum e f ∙ g5 (codes "put_num(") (expr_text e) (codes ", ") (expr_text f) (codes ");\n") ∙ ap (λ y. codes "put_num(" ++ y) (sym m.of.text);
     }
-join_stmt sc room (suc (suc (suc (suc (suc (suc (suc zero))))))) s w l m =
+join_stmt sc room (suc (suc (suc (suc (suc (suc (suc (suc (suc zero))))))))) s w l m =
     let e = m.part in record {
       fits = subst IsTrue (sym (ap (λ s. is_stmt sc s room) m.is ∙ is_PutChar sc e room)) m.of.fits;
       text = ap stmt_text m.is ∙ text_PutChar e ∙ append_assoc (codes "put_char(") (expr_text e) (codes ");\n") ∙ ap (λ y. codes "put_char(" ++ y) (sym m.of.text);
     }
-join_stmt sc room (suc (suc (suc (suc (suc (suc (suc (suc zero)))))))) s w l m =
+join_stmt sc room (suc (suc (suc (suc (suc (suc (suc (suc (suc (suc zero)))))))))) s w l m =
     let name = m.part in let r = m.goes_on in let n = r.part in record {
       fits = subst IsTrue (sym (ap (λ s. is_stmt sc s room) r.is ∙ is_At sc name (pos n) room)) (and_both (is_name name) (nat_lt n (2 ^ 63)) m.begins.fits (of_lt n (2 ^ 63) r.of.below));
       text = ap stmt_text r.is ∙ text_At name (pos n) ∙ g5 (codes "at(\"") name (codes "\", ") (decimal n) (codes ");\n")
           ∙ ap (λ y. codes "at(\"" ++ y) (sym (m.whole ∙ ap₂ (λ y z. y ++ z) m.begins.text r.of.text ∙ append_assoc name (codes "\", ") (decimal n ++ codes ");\n")));
     }
-join_stmt sc room (suc (suc (suc (suc (suc (suc (suc (suc (suc zero))))))))) s w l m = called_join sc room m.0 s w m.1
-join_stmt sc room (suc (suc (suc (suc (suc (suc (suc (suc (suc (suc zero)))))))))) s w l i =
+join_stmt sc room (suc (suc (suc (suc (suc (suc (suc (suc (suc (suc (suc zero))))))))))) s w l m = called_join sc room m.0 s w m.1
+join_stmt sc room (suc (suc (suc (suc (suc (suc (suc (suc (suc (suc (suc (suc zero)))))))))))) s w l i =
     let z = from_inner (IfBehind sc room) room s w i in
     let m = z.2 in let m2 = m.goes_on in let m3 = m2.goes_on in
     if_join sc room z.0 m.part m2.part m3.part s m3.front m3.back w z.1 m.begins.fits m2.begins.fits m3.begins m3.goes_on (cc (m.whole, m.begins.text, m2.whole, m2.begins.text, m3.whole))
-join_stmt sc room (suc (suc (suc (suc (suc (suc (suc (suc (suc (suc (suc zero))))))))))) s w l i =
+join_stmt sc room (suc (suc (suc (suc (suc (suc (suc (suc (suc (suc (suc (suc (suc zero))))))))))))) s w l i =
     let z = from_inner (WhileBehind sc room) room s w i in
     let m = z.2 in let e = m.part in let m2 = m.goes_on in let a = m2.part in record {
       fits = subst IsTrue (sym (ap (λ s. is_stmt sc s room) m2.is ∙ is_While sc e a room)) (and_both (is_expr sc e room) (inside room (are_stmts sc a)) m.begins.fits (of_inner room z.0 (are_stmts sc a) z.1 m2.of.fits));
@@ -109,7 +117,7 @@ join_stmt sc room (suc (suc (suc (suc (suc (suc (suc (suc (suc (suc (suc zero)))
   where
     while_text : (e a : List ℕ) → codes "while (" ++ e ++ codes ") {\n" ++ a ++ codes "}\n" ≡ codes "while (" ++ ((e ++ codes ") {\n") ++ (a ++ (codes "}" ++ codes "\n")))
     while_text e a = simp append_assoc
-join_stmt sc room (suc (suc (suc (suc (suc (suc (suc (suc (suc (suc (suc (suc zero)))))))))))) s w l i =
+join_stmt sc room (suc (suc (suc (suc (suc (suc (suc (suc (suc (suc (suc (suc (suc (suc zero)))))))))))))) s w l i =
     let z = from_inner (SwitchBehind sc) room s w i in
     let m = z.2 in let x = m.part in let m2 = m.goes_on in let arms = m2.part.0 in let d = m2.part.1 in
     let tests = map (arm_test sc) arms in record {
@@ -120,7 +128,7 @@ join_stmt sc room (suc (suc (suc (suc (suc (suc (suc (suc (suc (suc (suc (suc ze
   where
     switch_text : (x a d : List ℕ) → codes "switch (" ++ x ++ codes ") {\n" ++ a ++ codes "default: {\n" ++ d ++ codes "} break;\n}\n" ≡ codes "switch (" ++ ((x ++ codes ") {\n") ++ (a ++ (codes "default: {\n" ++ (d ++ codes "} break;\n}\n"))))
     switch_text x a d = simp append_assoc
-join_stmt sc room (suc (suc (suc (suc (suc (suc (suc (suc (suc (suc (suc (suc (suc k))))))))))))) s w l m = absurd (omega (arith, l))
+join_stmt sc room (suc (suc (suc (suc (suc (suc (suc (suc (suc (suc (suc (suc (suc (suc (suc k))))))))))))))) s w l m = absurd (omega (arith, l))
 
 abbrev pub Keyed : Scope → Option ℕ → List CStmt → List ℕ → Type 0
 Keyed sc room = Bind (OneOf keywords (may sc room)) (BlockBehind sc room)
@@ -210,26 +218,28 @@ some_switches sc (Some (suc n)) h = let z = both_true (nat_lt 0 n) (some_of sc.i
     has zero h = absurd (cc h)
     has (suc n) h = refl
 
-pub some_behind : (sc : Scope) (room : Option ℕ) (k : ℕ) → 0 < sc.functions → suc k < 14 → get_or (may sc room) (suc k) false ≡ true → Some_of (StmtBehind sc room k)
+pub some_behind : (sc : Scope) (room : Option ℕ) (k : ℕ) → 0 < sc.functions → suc k < 16 → get_or (may sc room) (suc k) false ≡ true → Some_of (StmtBehind sc room k)
 some_behind sc room zero f l h = some_pure st.Return
-some_behind sc room (suc zero) f l h = some_bind (some_number_then sc.ints (codes " = ") (lt_of 0 sc.ints h)) (λ n. some_assigned sc room (int.Local n))
-some_behind sc room (suc (suc zero)) f l h = some_bind (some_number_then sc.global_ints (codes " = ") (lt_of 0 sc.global_ints h)) (λ n. some_assigned sc room (int.Global n))
-some_behind sc room (suc (suc (suc zero))) f l h = some_bind ((0, 0), (decimal 0 ++ codes "[", record { below = lt_of 0 sc.bufs h; back = codes "["; sign = record { within = omega arith; text = refl; may = refl }; text = refl })) (λ x. some_stored sc room (buf.Local x.0) x.1)
-some_behind sc room (suc (suc (suc (suc zero)))) f l h = some_bind ((0, 0), (decimal 0 ++ codes "[", record { below = lt_of 0 sc.global_bufs h; back = codes "["; sign = record { within = omega arith; text = refl; may = refl }; text = refl })) (λ x. some_stored sc room (buf.Global x.0) x.1)
-some_behind sc room (suc (suc (suc (suc (suc zero))))) f l h = some_map (λ p. st.Free p) (some_buf_then sc (codes ");\n") h)
-some_behind sc room (suc (suc (suc (suc (suc (suc zero)))))) f l h = some_map (λ x. st.PutNum x.0 x.1) (some_two_exprs sc room (codes ", ") (codes ");\n"))
-some_behind sc room (suc (suc (suc (suc (suc (suc (suc zero))))))) f l h = some_map (λ e. st.PutChar e) (some_expr_then sc room (codes ");\n"))
-some_behind sc room (suc (suc (suc (suc (suc (suc (suc (suc zero)))))))) f l h = some_bind (some_name_then (codes "\", ")) (λ name. some_map (λ n. st.At name (pos n)) (some_number_then (2 ^ 63) (codes ");\n") (omega arith)))
-some_behind sc room (suc (suc (suc (suc (suc (suc (suc (suc (suc zero))))))))) f l h = some_called sc f
-some_behind sc room (suc (suc (suc (suc (suc (suc (suc (suc (suc (suc zero)))))))))) f l h = some_inner (IfBehind sc room) room h (some_if sc room)
-some_behind sc room (suc (suc (suc (suc (suc (suc (suc (suc (suc (suc (suc zero))))))))))) f l h = some_inner (WhileBehind sc room) room h (some_while sc room)
-some_behind sc room (suc (suc (suc (suc (suc (suc (suc (suc (suc (suc (suc (suc zero)))))))))))) f l h = some_switches sc room h
-some_behind sc room (suc (suc (suc (suc (suc (suc (suc (suc (suc (suc (suc (suc (suc k))))))))))))) f l h = absurd (omega (arith, l))
+some_behind sc room (suc zero) f l h = some_pure st.Enter
+some_behind sc room (suc (suc zero)) f l h = some_pure st.Leave
+some_behind sc room (suc (suc (suc zero))) f l h = some_bind (some_number_then sc.ints (codes " = ") (lt_of 0 sc.ints h)) (λ n. some_assigned sc room (int.Local n))
+some_behind sc room (suc (suc (suc (suc zero)))) f l h = some_bind (some_number_then sc.global_ints (codes " = ") (lt_of 0 sc.global_ints h)) (λ n. some_assigned sc room (int.Global n))
+some_behind sc room (suc (suc (suc (suc (suc zero))))) f l h = some_bind ((0, 0), (decimal 0 ++ codes "[", record { below = lt_of 0 sc.bufs h; back = codes "["; sign = record { within = omega arith; text = refl; may = refl }; text = refl })) (λ x. some_stored sc room (buf.Local x.0) x.1)
+some_behind sc room (suc (suc (suc (suc (suc (suc zero)))))) f l h = some_bind ((0, 0), (decimal 0 ++ codes "[", record { below = lt_of 0 sc.global_bufs h; back = codes "["; sign = record { within = omega arith; text = refl; may = refl }; text = refl })) (λ x. some_stored sc room (buf.Global x.0) x.1)
+some_behind sc room (suc (suc (suc (suc (suc (suc (suc zero))))))) f l h = some_map (λ p. st.Free p) (some_buf_then sc (codes ");\n") h)
+some_behind sc room (suc (suc (suc (suc (suc (suc (suc (suc zero)))))))) f l h = some_map (λ x. st.PutNum x.0 x.1) (some_two_exprs sc room (codes ", ") (codes ");\n"))
+some_behind sc room (suc (suc (suc (suc (suc (suc (suc (suc (suc zero))))))))) f l h = some_map (λ e. st.PutChar e) (some_expr_then sc room (codes ");\n"))
+some_behind sc room (suc (suc (suc (suc (suc (suc (suc (suc (suc (suc zero)))))))))) f l h = some_bind (some_name_then (codes "\", ")) (λ name. some_map (λ n. st.At name (pos n)) (some_number_then (2 ^ 63) (codes ");\n") (omega arith)))
+some_behind sc room (suc (suc (suc (suc (suc (suc (suc (suc (suc (suc (suc zero))))))))))) f l h = some_called sc f
+some_behind sc room (suc (suc (suc (suc (suc (suc (suc (suc (suc (suc (suc (suc zero)))))))))))) f l h = some_inner (IfBehind sc room) room h (some_if sc room)
+some_behind sc room (suc (suc (suc (suc (suc (suc (suc (suc (suc (suc (suc (suc (suc zero))))))))))))) f l h = some_inner (WhileBehind sc room) room h (some_while sc room)
+some_behind sc room (suc (suc (suc (suc (suc (suc (suc (suc (suc (suc (suc (suc (suc (suc zero)))))))))))))) f l h = some_switches sc room h
+some_behind sc room (suc (suc (suc (suc (suc (suc (suc (suc (suc (suc (suc (suc (suc (suc (suc k))))))))))))))) f l h = absurd (omega (arith, l))
 
 pub joint_keyword : (sc : Scope) (room : Option ℕ) → 0 < sc.functions → Joint Any (OneOf keywords (may sc room)) Any (BlockBehind sc room)
 joint_keyword sc room f = joint_any (λ k w o. some k o.within o.may)
   where
-    some : (k : ℕ) → k < 14 → get_or (may sc room) k false ≡ true → Some_of (BlockBehind sc room k)
+    some : (k : ℕ) → k < 16 → get_or (may sc room) k false ≡ true → Some_of (BlockBehind sc room k)
     some zero l h = some_pure []
     some (suc k) l h = some_bind (some_behind sc room k f l h) (λ s. some_map (λ ss. s ∷ ss) (some_block sc room))
 
@@ -244,7 +254,7 @@ keyword_shorter sc room {s} {rest} {k} f =
     let e : length s ≡ length (get_or keywords k []) + length rest = ap length f.here ∙ length-append f.text rest ∙ ap (λ x. length x + length rest) f.is.text in
     omega (arith, l, e)
   where
-    length_of : (k : ℕ) → k < 14 → 0 < length (get_or keywords k [])
+    length_of : (k : ℕ) → k < 16 → 0 < length (get_or keywords k [])
     length_of zero l = omega arith
     length_of (suc zero) l = omega arith
     length_of (suc (suc zero)) l = omega arith
@@ -259,7 +269,9 @@ keyword_shorter sc room {s} {rest} {k} f =
     length_of (suc (suc (suc (suc (suc (suc (suc (suc (suc (suc (suc zero))))))))))) l = omega arith
     length_of (suc (suc (suc (suc (suc (suc (suc (suc (suc (suc (suc (suc zero)))))))))))) l = omega arith
     length_of (suc (suc (suc (suc (suc (suc (suc (suc (suc (suc (suc (suc (suc zero))))))))))))) l = omega arith
-    length_of (suc (suc (suc (suc (suc (suc (suc (suc (suc (suc (suc (suc (suc (suc k)))))))))))))) l = absurd (omega (arith, l))
+    length_of (suc (suc (suc (suc (suc (suc (suc (suc (suc (suc (suc (suc (suc (suc zero)))))))))))))) l = omega arith
+    length_of (suc (suc (suc (suc (suc (suc (suc (suc (suc (suc (suc (suc (suc (suc (suc zero))))))))))))))) l = omega arith
+    length_of (suc (suc (suc (suc (suc (suc (suc (suc (suc (suc (suc (suc (suc (suc (suc (suc k)))))))))))))))) l = absurd (omega (arith, l))
 
 abbrev pub Before : Scope → Option ℕ → List CStmt → List CStmt → List ℕ → Type 0
 Before sc room before = Map (λ ss. before ++ ss) (Block sc room)
@@ -332,7 +344,7 @@ mask_short (b ∷ l) zero h = omega arith
 mask_short (b ∷ l) (suc i) h = let r = mask_short l i h in omega (arith, r)
 
 -- an opening that is a keyword
-pub keyword_of : (sc : Scope) (room : Option ℕ) (b x : Bool) (i : ℕ) (w : List ℕ) → i < 14 → OneOf openings (opening_may sc room b x) i w → OneOf keywords (may sc room) i w
+pub keyword_of : (sc : Scope) (room : Option ℕ) (b x : Bool) (i : ℕ) (w : List ℕ) → i < 16 → OneOf openings (opening_may sc room b x) i w → OneOf keywords (may sc room) i w
 keyword_of sc room b x i w l o = record {
   within = l;
   text = o.text ∙ get_or_append_left keywords (codes "int64_t *b0 = 0" ∷ codes "int64_t v0" ∷ []) [] i l;
@@ -351,7 +363,7 @@ within_keyword sc room s = same
     (λ i w o. let a = mask_short (may sc room ++ (false ∷ [])) i o.may in short i w o a)
     (λ i w o. of_keyword sc room false false i w o)
   where
-    short : (i : ℕ) (w : List ℕ) → OneOf openings (opening_may sc room false false) i w → i < 15 → OneOf keywords (may sc room) i w
+    short : (i : ℕ) (w : List ℕ) → OneOf openings (opening_may sc room false false) i w → i < 17 → OneOf keywords (may sc room) i w
     short i w o l =
         let p = get_or_append_left (may sc room ++ (false ∷ [])) (false ∷ []) false i l in
         let k = mask_short (may sc room) i (sym p ∙ o.may) in
@@ -397,7 +409,7 @@ second_else (suc (suc i)) n f = absurd (omega (arith, f.is.within))
 pub inner_reads : (L : Option ℕ → CStmt → List ℕ → Type 0) (room r : Option ℕ) (s : List ℕ) (x : Result (CStmt × Bor (List ℕ)) Halt) → IsInner room (Some r) → Reads Any (L r) s x → Reads Any (Inner room L) s x
 inner_reads L room r s x n f = reads_within Any x (within_inner L room r n) f
 
-pub no_room : (sc : Scope) (room : Option ℕ) (k : ℕ) → 10 ≤ k → k < 13 → get_or (may sc room) (k + 1) false ≡ true → IsInner room None → ⊥
+pub no_room : (sc : Scope) (room : Option ℕ) (k : ℕ) → 12 ≤ k → k < 15 → get_or (may sc room) (k + 1) false ≡ true → IsInner room None → ⊥
 no_room sc None k l m h n = cc n
 no_room sc (Some (suc r)) k l m h n = cc n
 no_room sc (Some zero) k l m h n = elim (three k l m) [
@@ -405,10 +417,10 @@ no_room sc (Some zero) k l m h n = elim (three k l m) [
   | inr p ↦ elim p [ inl e ↦ absurd (cc (subst (λ k. get_or (may sc (Some 0)) (k + 1) false ≡ true) e h)) | inr e ↦ absurd (cc (subst (λ k. get_or (may sc (Some 0)) (k + 1) false ≡ true) e h)) ]
 ]
   where
-    three : (k : ℕ) → 10 ≤ k → k < 13 → (k ≡ 10) ⊎ ((k ≡ 11) ⊎ (k ≡ 12))
+    three : (k : ℕ) → 12 ≤ k → k < 15 → (k ≡ 12) ⊎ ((k ≡ 13) ⊎ (k ≡ 14))
     three k l m = grind arith
 
-pub switch_room : (sc : Scope) (room r : Option ℕ) (k : ℕ) → k ≡ 12 → get_or (may sc room) (k + 1) false ≡ true → IsInner room (Some r) → (has_room r ≡ true) × (some_of sc.ints sc.global_ints ≡ true)
+pub switch_room : (sc : Scope) (room r : Option ℕ) (k : ℕ) → k ≡ 14 → get_or (may sc room) (k + 1) false ≡ true → IsInner room (Some r) → (has_room r ≡ true) × (some_of sc.ints sc.global_ints ≡ true)
 switch_room sc room r k e h n = go room (both_true (has_rooms room) (some_of sc.ints sc.global_ints) (subst (λ k. get_or (may sc room) (k + 1) false ≡ true) e h)) n
   where
     room_one : (n : ℕ) → nat_lt 0 n ≡ true → has_room (Some n) ≡ true

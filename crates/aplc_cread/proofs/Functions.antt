@@ -55,10 +55,10 @@ functions_in false c i b l = l
 abbrev pub OpenedAny : Mode → Counts → ℕ → CFunction → List ℕ → Type 0
 OpenedAny m c i = Bind (OneOf openings (opening_may (scope_in m.free c i 0) m.limit true false)) (Opened m c i)
 
-pub opening_short : (sc : Scope) (room : Option ℕ) (b : Bool) {k : ℕ} {w : List ℕ} → OneOf openings (opening_may sc room b false) k w → k < 15
+pub opening_short : (sc : Scope) (room : Option ℕ) (b : Bool) {k : ℕ} {w : List ℕ} → OneOf openings (opening_may sc room b false) k w → k < 17
 opening_short sc room b {k} o = mask_short (may sc room ++ (b ∷ [])) k o.may
 
-pub opening_fewer : (sc : Scope) (room : Option ℕ) (b x y : Bool) (k : ℕ) (w : List ℕ) → k < 15 → OneOf openings (opening_may sc room b x) k w → OneOf openings (opening_may sc room b y) k w
+pub opening_fewer : (sc : Scope) (room : Option ℕ) (b x y : Bool) (k : ℕ) (w : List ℕ) → k < 17 → OneOf openings (opening_may sc room b x) k w → OneOf openings (opening_may sc room b y) k w
 opening_fewer sc room b x y k w l o = record {
   within = o.within;
   text = o.text;
@@ -75,16 +75,16 @@ within_declared m c i s li = same (λ f w x. into f w x.part x.front x.back x.be
         → w ≡ declaration (codes "int64_t ") local_buf b ++ (stmts_text ss ++ codes "}\n") → Declared m c i f w
     made_declared b ss f w e l g t = subst (λ f. Declared m c i f w) (sym e) (record { ints = refl; fits = fits_of m c i b ss li l g; text = t })
 
-    by : (f : CFunction) (w : List ℕ) (k : ℕ) (x y : List ℕ) (b : Bool) → nat_lt k 14 ≡ b → OneOf openings (opening_may (scope_in m.free c i 0) m.limit true false) k x → OpenedBy m c i k b f y → w ≡ x ++ y → Declared m c i f w
+    by : (f : CFunction) (w : List ℕ) (k : ℕ) (x y : List ℕ) (b : Bool) → nat_lt k 16 ≡ b → OneOf openings (opening_may (scope_in m.free c i 0) m.limit true false) k x → OpenedBy m c i k b f y → w ≡ x ++ y → Declared m c i f w
     by f w k x y true h o g e =
         let sc = scope_in m.free c i 0 in
         let n = g.goes_on in let ss = g.part in
-        let block = (within_block sc m.limit []).into ss (x ++ g.front) (bind_at k x g.front (keyword_of sc m.limit true false k x (lt_of k 14 h) o) g.begins) in
+        let block = (within_block sc m.limit []).into ss (x ++ g.front) (bind_at k x g.front (keyword_of sc m.limit true false k x (lt_of k 16 h) o) g.begins) in
         made_declared 0 ss f w n.is (omega arith) block.fits
         (e ∙ ap (λ y. x ++ y) (g.whole ∙ ap (λ y. g.front ++ y) n.of) ∙ sym (append_assoc x g.front (codes "\n")) ∙ ap (λ y. y ++ codes "\n") block.text ∙ append_assoc (stmts_text ss) (codes "}") (codes "\n"))
     by f w k x y false h o g e =
         let l = opening_short (scope_in m.free c i 0) m.limit true o in
-        let at : k ≡ 14 = last k l h in
+        let at : k ≡ 16 = last k l h in
         let n = g.goes_on in let ss = n.part in let b = g.part in let list = g.begins in
         let more = list.more in
         let many : b ≡ suc more = let q = list.count in omega (arith, q) in
@@ -93,11 +93,11 @@ within_declared m c i s li = same (λ f w x. into f w x.part x.front x.back x.be
         ∙ sym (append_assoc (codes "int64_t *b0 = 0") (listed_from (numbered (codes "*b") (codes " = 0")) 1 more ++ codes ";\n") (stmts_text ss ++ codes "}\n"))
         ∙ ap (λ y. y ++ (stmts_text ss ++ codes "}\n")) (sym (bufs_line more) ∙ ap (λ n. declaration (codes "int64_t ") local_buf n) (sym many)))
       where
-        last : (k : ℕ) → k < 15 → nat_lt k 14 ≡ false → k ≡ 14
+        last : (k : ℕ) → k < 17 → nat_lt k 16 ≡ false → k ≡ 16
         last k l h = grind (arith, nat_tests)
 
     into : (f : CFunction) (w : List ℕ) (k : ℕ) (x y : List ℕ) → OneOf openings (opening_may (scope_in m.free c i 0) m.limit true false) k x → Opened m c i k f y → w ≡ x ++ y → Declared m c i f w
-    into f w k x y o g e = by f w k x y (nat_lt k 14) refl o g e
+    into f w k x y o g e = by f w k x y (nat_lt k 16) refl o g e
 
     opened : (b : ℕ) (ss : List CStmt) (w : List ℕ) → IsTrue (is_function (scope_in m.free c i b) m.limit (made i b ss)) → w ≡ declaration (codes "int64_t ") local_buf b ++ (stmts_text ss ++ codes "}\n") → OpenedAny m c i (made i b ss) w
     opened zero ss w fit t =
@@ -110,7 +110,7 @@ within_declared m c i s li = same (λ f w x. into f w x.part x.front x.back x.be
           front = z.front;
           back = z.back ++ codes "\n";
           begins = of_keyword sc m.limit true false z.part z.front z.begins;
-          goes_on = subst (λ b. OpenedBy m c i z.part b (made i 0 ss) (z.back ++ codes "\n")) (sym (of_lt z.part 14 z.begins.within)) (bind_at ss z.back (codes "\n") z.goes_on (map_at (λ u. made i 0 ss) tt refl));
+          goes_on = subst (λ b. OpenedBy m c i z.part b (made i 0 ss) (z.back ++ codes "\n")) (sym (of_lt z.part 16 z.begins.within)) (bind_at ss z.back (codes "\n") z.goes_on (map_at (λ u. made i 0 ss) tt refl));
           whole = t ∙ sym (append_assoc (stmts_text ss) (codes "}") (codes "\n")) ∙ ap (λ y. y ++ codes "\n") z.whole ∙ append_assoc z.front z.back (codes "\n");
         }
     opened (suc more) ss w fit t =
@@ -120,7 +120,7 @@ within_declared m c i s li = same (λ f w x. into f w x.part x.front x.back x.be
         let list : List ℕ = listed_from (numbered (codes "*b") (codes " = 0")) 1 more ++ codes ";\n" in
         let body : List ℕ = stmts_text ss ++ codes "}\n" in
         record {
-          part = 14;
+          part = 16;
           front = codes "int64_t *b0 = 0";
           back = list ++ body;
           begins = record { within = omega arith; text = refl; may = refl };
@@ -137,12 +137,12 @@ some_bufs : (m : Mode) (c : Counts) (i : ℕ) → Some_of (WithBufs m c i)
 some_bufs m c i = some_bind (some_listing (codes "*b") (codes " = 0") 1 (omega arith)) (λ b. some_map (made i b) (some_block_then (scope_in m.free c i b) m.limit (codes "\n")))
 
 some_opened : (m : Mode) (c : Counts) (i k : ℕ) (x : Bool) (w : List ℕ) → 0 < c.functions → OneOf openings (opening_may (scope_in m.free c i 0) m.limit true x) k w → Some_of (Opened m c i k)
-some_opened m c i k x w l o = by (nat_lt k 14) refl
+some_opened m c i k x w l o = by (nat_lt k 16) refl
   where
-    by : (b : Bool) → nat_lt k 14 ≡ b → Some_of (OpenedBy m c i k b)
+    by : (b : Bool) → nat_lt k 16 ≡ b → Some_of (OpenedBy m c i k b)
     by true h =
         let sc = scope_in m.free c i 0 in
-        some_bind ((joint_keyword sc m.limit (functions_in m.free c i 0 l)).some k w (keyword_of sc m.limit true x k w (lt_of k 14 h) o)) (λ ss. some_map (λ u. made i 0 ss) (tt, (codes "\n", refl)))
+        some_bind ((joint_keyword sc m.limit (functions_in m.free c i 0 l)).some k w (keyword_of sc m.limit true x k w (lt_of k 16 h) o)) (λ ss. some_map (λ u. made i 0 ss) (tt, (codes "\n", refl)))
     by false h = some_bufs m c i
 
 pub joint_opening : (m : Mode) (c : Counts) (i : ℕ) → 0 < c.functions → Joint Any (OneOf openings (opening_may (scope_in m.free c i 0) m.limit true false)) Any (Opened m c i)
@@ -171,12 +171,12 @@ within_function m c s = same (λ f w x. into f w x.part x.front x.back x.begins 
     sc : Scope
     sc = scope_in m.free c 0 0
 
-    by : (f : CFunction) (w : List ℕ) (k : ℕ) (x y : List ℕ) (b : Bool) → nat_lt k 15 ≡ b → OneOf openings (opening_may (scope_in m.free c 0 0) m.limit true true) k x → StartedBy m c k b f y → w ≡ x ++ y → Function m c f w
+    by : (f : CFunction) (w : List ℕ) (k : ℕ) (x y : List ℕ) (b : Bool) → nat_lt k 17 ≡ b → OneOf openings (opening_may (scope_in m.free c 0 0) m.limit true true) k x → StartedBy m c k b f y → w ≡ x ++ y → Function m c f w
     by f w k x y true h o g e =
-        let d = (within_declared m c 0 [] (omega arith)).into f w (record { part = k; front = x; back = y; begins = opening_fewer (scope_in m.free c 0 0) m.limit true true false k x (lt_of k 15 h) o; goes_on = g; whole = e }) in
+        let d = (within_declared m c 0 [] (omega arith)).into f w (record { part = k; front = x; back = y; begins = opening_fewer (scope_in m.free c 0 0) m.limit true true false k x (lt_of k 17 h) o; goes_on = g; whole = e }) in
         record { fits = d.fits; text = d.text ∙ ap (λ n. declaration (codes "int64_t ") local_int n ++ (declaration (codes "int64_t ") local_buf f.bufs ++ (stmts_text f.body ++ codes "}\n"))) (sym d.ints) }
     by f w k x y false h o g e =
-        let at : k ≡ 15 = last k o.within h in
+        let at : k ≡ 17 = last k o.within h in
         let d = g.goes_on in let list = g.begins in let more = list.more in
         let many : suc more ≡ f.ints = let q = list.count in let r = d.ints in omega (arith, q, r) in
         let rest : List ℕ = declaration (codes "int64_t ") local_buf f.bufs ++ (stmts_text f.body ++ codes "}\n") in
@@ -187,11 +187,11 @@ within_function m c s = same (λ f w x. into f w x.part x.front x.back x.begins 
               ∙ ap (λ y. y ++ rest) (sym (ints_line more) ∙ ap (λ n. declaration (codes "int64_t ") local_int n) many);
         }
       where
-        last : (k : ℕ) → k < 16 → nat_lt k 15 ≡ false → k ≡ 15
+        last : (k : ℕ) → k < 18 → nat_lt k 17 ≡ false → k ≡ 17
         last k l h = grind (arith, nat_tests)
 
     into : (f : CFunction) (w : List ℕ) (k : ℕ) (x y : List ℕ) → OneOf openings (opening_may (scope_in m.free c 0 0) m.limit true true) k x → Started m c k f y → w ≡ x ++ y → Function m c f w
-    into f w k x y o g e = by f w k x y (nat_lt k 15) refl o g e
+    into f w k x y o g e = by f w k x y (nat_lt k 17) refl o g e
 
     from : (f : CFunction) (w : List ℕ) → Function m c f w → (n : ℕ) → f.ints ≡ n → StartedAny m c f w
     from f w x zero e =
@@ -203,7 +203,7 @@ within_function m c s = same (λ f w x. into f w x.part x.front x.back x.begins 
           front = z.front;
           back = z.back;
           begins = opening_fewer (scope_in m.free c 0 0) m.limit true false true z.part z.front l z.begins;
-          goes_on = subst (λ b. StartedBy m c z.part b f z.back) (sym (of_lt z.part 15 l)) z.goes_on;
+          goes_on = subst (λ b. StartedBy m c z.part b f z.back) (sym (of_lt z.part 17 l)) z.goes_on;
           whole = z.whole;
         }
     from f w x (suc more) e =
@@ -212,7 +212,7 @@ within_function m c s = same (λ f w x. into f w x.part x.front x.back x.begins 
         let g = both (is_count f.ints && is_count f.bufs) (are_stmts (scope_for m c f) f.body m.limit) x.fits in
         let l = lt_of f.ints (2 ^ 32) (both (is_count f.ints) (is_count f.bufs) g.0).0 in
         record {
-          part = 15;
+          part = 17;
           front = codes "int64_t v0";
           back = list ++ rest;
           begins = record { within = omega arith; text = refl; may = refl };
@@ -221,9 +221,9 @@ within_function m c s = same (λ f w x. into f w x.part x.front x.back x.begins 
         }
 
 pub joint_started : (m : Mode) (c : Counts) → 0 < c.functions → Joint Any (OneOf openings (opening_may (scope_in m.free c 0 0) m.limit true true)) Any (Started m c)
-joint_started m c l = joint_any (λ k w o. by k w o (nat_lt k 15) refl)
+joint_started m c l = joint_any (λ k w o. by k w o (nat_lt k 17) refl)
   where
-    by : (k : ℕ) (w : List ℕ) → OneOf openings (opening_may (scope_in m.free c 0 0) m.limit true true) k w → (b : Bool) → nat_lt k 15 ≡ b → Some_of (StartedBy m c k b)
+    by : (k : ℕ) (w : List ℕ) → OneOf openings (opening_may (scope_in m.free c 0 0) m.limit true true) k w → (b : Bool) → nat_lt k 17 ≡ b → Some_of (StartedBy m c k b)
     by k w o true h = some_opened m c 0 k true w l o
     by k w o false h =
         let d = some_declared m c 1 l (omega arith) in
@@ -234,14 +234,14 @@ joint_ints m c l = joint_any (λ i w o. some_declared m c i l o.below)
 
 -- ---- For the readers
 
-pub opened_halts : (m : Mode) (c : Counts) (i k : ℕ) {s : List ℕ} {h : Halt} → k < 14 → Halts Any (OpenedBy m c i k true) s h → Halts Any (Opened m c i k) s h
-opened_halts m c i k {s} {h} l f = subst (λ b. Halts Any (OpenedBy m c i k b) s h) (sym (of_lt k 14 l)) f
+pub opened_halts : (m : Mode) (c : Counts) (i k : ℕ) {s : List ℕ} {h : Halt} → k < 16 → Halts Any (OpenedBy m c i k true) s h → Halts Any (Opened m c i k) s h
+opened_halts m c i k {s} {h} l f = subst (λ b. Halts Any (OpenedBy m c i k b) s h) (sym (of_lt k 16 l)) f
 
-pub opened_found : (m : Mode) (c : Counts) (i k : ℕ) {s rest : List ℕ} {f : CFunction} → k < 14 → Found Any (OpenedBy m c i k true) s f rest → Found Any (Opened m c i k) s f rest
-opened_found m c i k {s} {rest} {f} l g = subst (λ b. Found Any (OpenedBy m c i k b) s f rest) (sym (of_lt k 14 l)) g
+pub opened_found : (m : Mode) (c : Counts) (i k : ℕ) {s rest : List ℕ} {f : CFunction} → k < 16 → Found Any (OpenedBy m c i k true) s f rest → Found Any (Opened m c i k) s f rest
+opened_found m c i k {s} {rest} {f} l g = subst (λ b. Found Any (OpenedBy m c i k b) s f rest) (sym (of_lt k 16 l)) g
 
-pub started_reads : (m : Mode) (c : Counts) (k : ℕ) (s : List ℕ) (x : Result (CFunction × Bor (List ℕ)) Halt) → k < 16 → (k ≡ 15 → ⊥) → Reads Any (Opened m c 0 k) s x → Reads Any (Started m c k) s x
-started_reads m c k s x l n r = subst (λ b. Reads Any (StartedBy m c k b) s x) (sym (of_lt k 15 (omega (arith, l, n)))) r
+pub started_reads : (m : Mode) (c : Counts) (k : ℕ) (s : List ℕ) (x : Result (CFunction × Bor (List ℕ)) Halt) → k < 18 → (k ≡ 17 → ⊥) → Reads Any (Opened m c 0 k) s x → Reads Any (Started m c k) s x
+started_reads m c k s x l n r = subst (λ b. Reads Any (StartedBy m c k b) s x) (sym (of_lt k 17 (omega (arith, l, n)))) r
 
-pub started_ints : {allowed : List Bool} {s rest : List ℕ} {k : ℕ} → k ≡ 15 → Found Any (OneOf openings allowed) s k rest → Found Any (OneOf openings allowed) s 15 rest
+pub started_ints : {allowed : List Bool} {s rest : List ℕ} {k : ℕ} → k ≡ 17 → Found Any (OneOf openings allowed) s k rest → Found Any (OneOf openings allowed) s 17 rest
 started_ints {allowed} {s} {rest} {k} e f = subst (λ k. Found Any (OneOf openings allowed) s k rest) e f

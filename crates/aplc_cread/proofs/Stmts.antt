@@ -18,7 +18,7 @@ use Rattle.aplc_cprof.specs.declared.syntax.CStmt.TheVariants as st
 use Rattle.aplc_cprof.specs.declared.syntax.CStmt.TheOpen.{CStmt-F}
 use Rattle.aplc_cprof.specs.Text.{expr_text, int_name, buf_name, checked_text, fault_number, stmt_text, stmts_text, arms_text}
 use Rattle.aplc_cprof.specs.WellFormed.{Scope, is_expr, is_int, is_buf, is_source, is_name, inside, rise, arms_fit, is_stmt, arm_test, are_stmts}
-use Rattle.aplc_cprof.proofs.Equations.{text_Set, text_SetCell, text_SetBuf, text_Cells, text_Free, text_Check, text_Width, text_PutNum, text_PutChar, text_ReadText, text_ReadNums, text_ReadCount, text_At, text_Fault, text_Call, text_Return, text_If, text_While, text_Switch}
+use Rattle.aplc_cprof.proofs.Equations.{text_Set, text_SetCell, text_SetBuf, text_Cells, text_Free, text_Check, text_Width, text_PutNum, text_PutChar, text_ReadText, text_ReadNums, text_ReadCount, text_At, text_Enter, text_Leave, text_Fault, text_Call, text_Return, text_If, text_While, text_Switch}
 use Rattle.aplc_cprof.proofs.Forms.{is_Set, is_SetCell, is_SetBuf, is_Cells, is_Free, is_Check, is_Width, is_PutNum, is_PutChar, is_ReadText, is_ReadNums, is_ReadCount, is_At, is_Fault, is_Call, is_If, is_While, is_Switch}
 use Rattle.aplc_cread.specs.Reading.{OneOf}
 use Rattle.aplc_cread.specs.Exprs.{IsInner}
@@ -298,7 +298,7 @@ fault_called sc fault.Input = (codes "ault(6);\n", map_at (λ i. st.Fault (fault
 pub record Split_stmt (sc : Scope) (room : Option ℕ) (s : CStmt) : Type 0 where
   pub keyword : ℕ
   pub back : List ℕ
-  pub within : suc keyword < 14
+  pub within : suc keyword < 16
   pub may_be : get_or (may sc room) (suc keyword) false ≡ true
   pub behind : StmtBehind sc room keyword s back
   pub text : stmt_text s ≡ get_or keywords (suc keyword) [] ++ back
@@ -306,7 +306,7 @@ pub record Split_stmt (sc : Scope) (room : Option ℕ) (s : CStmt) : Type 0 wher
 split_int : (sc : Scope) (room : Option ℕ) (x : Int) (s : CStmt) → IsTrue (is_int sc x) → IsAssigned sc room x s → Split_stmt sc room s
 split_int sc room (int.Local n) s h a =
     let l = lt_of n sc.ints h in record {
-      keyword = 1;
+      keyword = 3;
       back = (decimal n ++ codes " = ") ++ a.tail;
       within = omega arith;
       may_be = positive_of n sc.ints l;
@@ -315,7 +315,7 @@ split_int sc room (int.Local n) s h a =
     }
 split_int sc room (int.Global n) s h a =
     let l = lt_of n sc.global_ints h in record {
-      keyword = 2;
+      keyword = 4;
       back = (decimal n ++ codes " = ") ++ a.tail;
       within = omega arith;
       may_be = positive_of n sc.global_ints l;
@@ -326,7 +326,7 @@ split_int sc room (int.Global n) s h a =
 split_buf : (sc : Scope) (room : Option ℕ) (p : Buf) (s : CStmt) → IsTrue (is_buf sc p) → IsStored sc room p s → Split_stmt sc room s
 split_buf sc room (buf.Local n) s h a =
     let l = lt_of n sc.bufs h in let sign : List ℕ = get_or buf_signs a.sign [] in record {
-      keyword = 3;
+      keyword = 5;
       back = (decimal n ++ sign) ++ a.tail;
       within = omega arith;
       may_be = positive_of n sc.bufs l;
@@ -335,7 +335,7 @@ split_buf sc room (buf.Local n) s h a =
     }
 split_buf sc room (buf.Global n) s h a =
     let l = lt_of n sc.global_bufs h in let sign : List ℕ = get_or buf_signs a.sign [] in record {
-      keyword = 4;
+      keyword = 6;
       back = (decimal n ++ sign) ++ a.tail;
       within = omega arith;
       may_be = positive_of n sc.global_bufs l;
@@ -361,6 +361,8 @@ of (CStmt-F.ReadText p) = st.ReadText p
 of (CStmt-F.ReadNums p) = st.ReadNums p
 of (CStmt-F.ReadCount x) = st.ReadCount x
 of (CStmt-F.At name n) = st.At name n
+of CStmt-F.Enter = st.Enter
+of CStmt-F.Leave = st.Leave
 of (CStmt-F.Fault k) = st.Fault k
 of (CStmt-F.Call n) = st.Call n
 of CStmt-F.Return = st.Return
@@ -383,6 +385,8 @@ rolls (CStmt-F.ReadText p) = st.rolls-ReadText p
 rolls (CStmt-F.ReadNums p) = st.rolls-ReadNums p
 rolls (CStmt-F.ReadCount x) = st.rolls-ReadCount x
 rolls (CStmt-F.At name n) = st.rolls-At name n
+rolls CStmt-F.Enter = st.rolls-Enter
+rolls CStmt-F.Leave = st.rolls-Leave
 rolls (CStmt-F.Fault k) = st.rolls-Fault k
 rolls (CStmt-F.Call n) = st.rolls-Call n
 rolls CStmt-F.Return = st.rolls-Return
@@ -414,7 +418,7 @@ split_form sc room l s q h = subst (λ s. Split_stmt sc room s) (sym q) (go l (s
         split_buf sc room p (st.Cells p e) g.0 (stored_cells sc room p e g.1)
     go (CStmt-F.Free p) h =
         let g : IsTrue (is_buf sc p) = subst IsTrue (is_Free sc p room) h in record {
-          keyword = 5;
+          keyword = 7;
           back = buf_name p ++ codes ");\n";
           within = omega arith;
           may_be = some_buf sc p g;
@@ -430,7 +434,7 @@ split_form sc room l s q h = subst (λ s. Split_stmt sc room s) (sym q) (go l (s
         split_int sc room x (st.Width x e) g.0 (assigned_width sc room x e g.1)
     go (CStmt-F.PutNum e f) h =
         let g = both (is_expr sc e room) (is_expr sc f room) (subst IsTrue (is_PutNum sc e f room) h) in record {
-          keyword = 6;
+          keyword = 8;
           back = expr_text e ++ (codes ", " ++ (expr_text f ++ codes ");\n"));
           within = omega arith;
           may_be = refl;
@@ -438,7 +442,7 @@ split_form sc room l s q h = subst (λ s. Split_stmt sc room s) (sym q) (go l (s
           text = text_PutNum e f ∙ g5 (codes "put_num(") (expr_text e) (codes ", ") (expr_text f) (codes ");\n");
         }
     go (CStmt-F.PutChar e) h = record {
-      keyword = 7;
+      keyword = 9;
       back = expr_text e ++ codes ");\n";
       within = omega arith;
       may_be = refl;
@@ -450,7 +454,7 @@ split_form sc room l s q h = subst (λ s. Split_stmt sc room s) (sym q) (go l (s
     go (CStmt-F.ReadCount x) h = split_int sc room x (st.ReadCount x) (subst IsTrue (is_ReadCount sc x room) h) (assigned_count sc room x)
     go (CStmt-F.At name (pos n)) h =
         let g = both (is_name name) (nat_lt n (2 ^ 63)) (subst IsTrue (is_At sc name (pos n) room) h) in record {
-          keyword = 8;
+          keyword = 10;
           back = (name ++ codes "\", ") ++ (decimal n ++ codes ");\n");
           within = omega arith;
           may_be = refl;
@@ -458,10 +462,12 @@ split_form sc room l s q h = subst (λ s. Split_stmt sc room s) (sym q) (go l (s
           text = text_At name (pos n) ∙ g5 (codes "at(\"") name (codes "\", ") (decimal n) (codes ");\n") ∙ ap (λ y. codes "at(\"" ++ y) (sym (append_assoc name (codes "\", ") (decimal n ++ codes ");\n")));
         }
     go (CStmt-F.At name (negsuc n)) h = absurd (cc (both (is_name name) false (subst IsTrue (is_At sc name (negsuc n) room) h)).1)
+    go CStmt-F.Enter h = record { keyword = 1; back = []; within = omega arith; may_be = refl; behind = (refl, refl); text = text_Enter }
+    go CStmt-F.Leave h = record { keyword = 2; back = []; within = omega arith; may_be = refl; behind = (refl, refl); text = text_Leave }
     go (CStmt-F.Fault k) h =
-        let z = fault_called sc k in record { keyword = 9; back = z.0; within = omega arith; may_be = refl; behind = (true, z.1); text = z.2 }
+        let z = fault_called sc k in record { keyword = 11; back = z.0; within = omega arith; may_be = refl; behind = (true, z.1); text = z.2 }
     go (CStmt-F.Call n) h = record {
-      keyword = 9;
+      keyword = 11;
       back = decimal n ++ codes "();\n";
       within = omega arith;
       may_be = refl;
@@ -474,7 +480,7 @@ split_form sc room l s q h = subst (λ s. Split_stmt sc room s) (sym q) (go l (s
         let r = inner_of room (λ r. are_stmts sc a r && true) g.1 in
         let b = both (are_stmts sc a r.0) true r.2 in
         let back : List ℕ = (expr_text e ++ codes ") {\n") ++ ((stmts_text a ++ codes "}") ++ (codes "\n" ++ [])) in record {
-          keyword = 10;
+          keyword = 12;
           back = back;
           within = omega arith;
           may_be = room_of room r.0 r.1;
@@ -491,7 +497,7 @@ split_form sc room l s q h = subst (λ s. Split_stmt sc room s) (sym q) (go l (s
         let r = inner_of room (λ r. are_stmts sc a r && are_stmts sc d r) g.1 in
         let b = both (are_stmts sc a r.0) (are_stmts sc d r.0) r.2 in
         let back : List ℕ = (expr_text e ++ codes ") {\n") ++ ((stmts_text a ++ codes "}") ++ (codes " else {\n" ++ (stmts_text d ++ (codes "}" ++ codes "\n")))) in record {
-          keyword = 10;
+          keyword = 12;
           back = back;
           within = omega arith;
           may_be = room_of room r.0 r.1;
@@ -507,7 +513,7 @@ split_form sc room l s q h = subst (λ s. Split_stmt sc room s) (sym q) (go l (s
         let g = both (is_expr sc e room) (inside room (are_stmts sc a)) (subst IsTrue (is_While sc e a room) h) in
         let r = inner_of room (are_stmts sc a) g.1 in
         let back : List ℕ = (expr_text e ++ codes ") {\n") ++ (stmts_text a ++ (codes "}" ++ codes "\n")) in record {
-          keyword = 11;
+          keyword = 13;
           back = back;
           within = omega arith;
           may_be = room_of room r.0 r.1;
@@ -526,7 +532,7 @@ split_form sc room l s q h = subst (λ s. Split_stmt sc room s) (sym q) (go l (s
         let b = both (arms_fit tests r.0) (inside r.0 (are_stmts sc d)) r.2 in
         let r2 = inner_of r.0 (are_stmts sc d) b.1 in
         let back : List ℕ = (int_name x ++ codes ") {\n") ++ (arms_text arms ++ (codes "default: {\n" ++ (stmts_text d ++ codes "} break;\n}\n"))) in record {
-          keyword = 12;
+          keyword = 14;
           back = back;
           within = omega arith;
           may_be = and_true (has_rooms room) (some_of sc.ints sc.global_ints) (rooms_of room r.0 r2.0 r.1 r2.1) (some_int sc x k.0);

@@ -42,7 +42,7 @@ OpenedBy m c i k true = Bind (BlockBehind (scope_in m.free c i 0) m.limit k) (λ
 OpenedBy m c i k false = WithBufs m c i
 
 abbrev pub Opened : Mode → Counts → ℕ → ℕ → CFunction → List ℕ → Type 0
-Opened m c i k = OpenedBy m c i k (nat_lt k 14)
+Opened m c i k = OpenedBy m c i k (nat_lt k 16)
 
 -- behind any opening
 abbrev pub StartedBy : Mode → Counts → ℕ → Bool → CFunction → List ℕ → Type 0
@@ -50,4 +50,4 @@ StartedBy m c k true = Opened m c 0 k
 StartedBy m c k false = Bind (Listing (codes "v") [] 1) (Declared m c)
 
 abbrev pub Started : Mode → Counts → ℕ → CFunction → List ℕ → Type 0
-Started m c k = StartedBy m c k (nat_lt k 15)
+Started m c k = StartedBy m c k (nat_lt k 17)

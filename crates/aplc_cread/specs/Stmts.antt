@@ -177,7 +177,7 @@ SwitchBehind sc r = Bind (IntThen sc (codes ") {\n")) (λ x. Map (λ y. st.Switc
 -- ---- Keywords
 
 abbrev pub keywords : List (List ℕ)
-keywords = codes "}" ∷ codes "return;\n" ∷ codes "v" ∷ codes "g" ∷ codes "b" ∷ codes "h" ∷ codes "drop(" ∷ codes "put_num(" ∷ codes "put_char(" ∷ codes "at(\"" ∷ codes "f" ∷ codes "if (" ∷ codes "while (" ∷ codes "switch (" ∷ []
+keywords = codes "}" ∷ codes "return;\n" ∷ codes "enter();\n" ∷ codes "leave();\n" ∷ codes "v" ∷ codes "g" ∷ codes "b" ∷ codes "h" ∷ codes "drop(" ∷ codes "put_num(" ∷ codes "put_char(" ∷ codes "at(\"" ∷ codes "f" ∷ codes "if (" ∷ codes "while (" ∷ codes "switch (" ∷ []
 
 abbrev pub has_room : Option ℕ → Bool
 has_room None = true
@@ -194,23 +194,25 @@ some_of a b = nat_lt 0 a || nat_lt 0 b
 
 -- which of them may stand there
 abbrev pub may : Scope → Option ℕ → List Bool
-may sc room = true ∷ true ∷ nat_lt 0 sc.ints ∷ nat_lt 0 sc.global_ints ∷ nat_lt 0 sc.bufs ∷ nat_lt 0 sc.global_bufs ∷ some_of sc.bufs sc.global_bufs ∷ true ∷ true ∷ true ∷ true ∷ has_room room ∷ has_room room ∷ (has_rooms room && some_of sc.ints sc.global_ints) ∷ []
+may sc room = true ∷ true ∷ true ∷ true ∷ nat_lt 0 sc.ints ∷ nat_lt 0 sc.global_ints ∷ nat_lt 0 sc.bufs ∷ nat_lt 0 sc.global_bufs ∷ some_of sc.bufs sc.global_bufs ∷ true ∷ true ∷ true ∷ true ∷ has_room room ∷ has_room room ∷ (has_rooms room && some_of sc.ints sc.global_ints) ∷ []
 
 -- behind the keyword of this number, not counting the brace
 abbrev pub StmtBehind : Scope → Option ℕ → ℕ → CStmt → List ℕ → Type 0
 StmtBehind sc room zero = Pure st.Return
-StmtBehind sc room (suc zero) = Bind (NumberThen sc.ints (codes " = ")) (λ n. Assigned sc room (int.Local n))
-StmtBehind sc room (suc (suc zero)) = Bind (NumberThen sc.global_ints (codes " = ")) (λ n. Assigned sc room (int.Global n))
-StmtBehind sc room (suc (suc (suc zero))) = Bind (Signed sc.bufs) (λ x. StoredBehind sc room (buf.Local x.0) x.1)
-StmtBehind sc room (suc (suc (suc (suc zero)))) = Bind (Signed sc.global_bufs) (λ x. StoredBehind sc room (buf.Global x.0) x.1)
-StmtBehind sc room (suc (suc (suc (suc (suc zero))))) = Map (λ p. st.Free p) (BufThen sc (codes ");\n"))
-StmtBehind sc room (suc (suc (suc (suc (suc (suc zero)))))) = Map (λ x. st.PutNum x.0 x.1) (TwoExprs sc room (codes ", ") (codes ");\n"))
-StmtBehind sc room (suc (suc (suc (suc (suc (suc (suc zero))))))) = Map (λ e. st.PutChar e) (ExprThen sc room (codes ");\n"))
-StmtBehind sc room (suc (suc (suc (suc (suc (suc (suc (suc zero)))))))) = Bind (NameThen (codes "\", ")) (λ name. Map (λ n. st.At name (pos n)) (NumberThen (2 ^ 63) (codes ");\n")))
-StmtBehind sc room (suc (suc (suc (suc (suc (suc (suc (suc (suc zero))))))))) = Called sc
-StmtBehind sc room (suc (suc (suc (suc (suc (suc (suc (suc (suc (suc zero)))))))))) = Inner room (IfBehind sc room)
-StmtBehind sc room (suc (suc (suc (suc (suc (suc (suc (suc (suc (suc (suc zero))))))))))) = Inner room (WhileBehind sc room)
-StmtBehind sc room (suc (suc (suc (suc (suc (suc (suc (suc (suc (suc (suc (suc n)))))))))))) = Inner room (SwitchBehind sc)
+StmtBehind sc room (suc zero) = Pure st.Enter
+StmtBehind sc room (suc (suc zero)) = Pure st.Leave
+StmtBehind sc room (suc (suc (suc zero))) = Bind (NumberThen sc.ints (codes " = ")) (λ n. Assigned sc room (int.Local n))
+StmtBehind sc room (suc (suc (suc (suc zero)))) = Bind (NumberThen sc.global_ints (codes " = ")) (λ n. Assigned sc room (int.Global n))
+StmtBehind sc room (suc (suc (suc (suc (suc zero))))) = Bind (Signed sc.bufs) (λ x. StoredBehind sc room (buf.Local x.0) x.1)
+StmtBehind sc room (suc (suc (suc (suc (suc (suc zero)))))) = Bind (Signed sc.global_bufs) (λ x. StoredBehind sc room (buf.Global x.0) x.1)
+StmtBehind sc room (suc (suc (suc (suc (suc (suc (suc zero))))))) = Map (λ p. st.Free p) (BufThen sc (codes ");\n"))
+StmtBehind sc room (suc (suc (suc (suc (suc (suc (suc (suc zero)))))))) = Map (λ x. st.PutNum x.0 x.1) (TwoExprs sc room (codes ", ") (codes ");\n"))
+StmtBehind sc room (suc (suc (suc (suc (suc (suc (suc (suc (suc zero))))))))) = Map (λ e. st.PutChar e) (ExprThen sc room (codes ");\n"))
+StmtBehind sc room (suc (suc (suc (suc (suc (suc (suc (suc (suc (suc zero)))))))))) = Bind (NameThen (codes "\", ")) (λ name. Map (λ n. st.At name (pos n)) (NumberThen (2 ^ 63) (codes ");\n")))
+StmtBehind sc room (suc (suc (suc (suc (suc (suc (suc (suc (suc (suc (suc zero))))))))))) = Called sc
+StmtBehind sc room (suc (suc (suc (suc (suc (suc (suc (suc (suc (suc (suc (suc zero)))))))))))) = Inner room (IfBehind sc room)
+StmtBehind sc room (suc (suc (suc (suc (suc (suc (suc (suc (suc (suc (suc (suc (suc zero))))))))))))) = Inner room (WhileBehind sc room)
+StmtBehind sc room (suc (suc (suc (suc (suc (suc (suc (suc (suc (suc (suc (suc (suc (suc n)))))))))))))) = Inner room (SwitchBehind sc)
 
 abbrev pub BlockBehind : Scope → Option ℕ → ℕ → List CStmt → List ℕ → Type 0
 BlockBehind sc room zero = Pure []

@@ -65,6 +65,8 @@ pub(crate) fn opening(
         &[
             b"}",
             b"return;\n",
+            b"enter();\n",
+            b"leave();\n",
             b"v",
             b"g",
             b"b",
@@ -81,6 +83,8 @@ pub(crate) fn opening(
             b"int64_t v0",
         ],
         &[
+            true,
+            true,
             true,
             true,
             0 < names.ints,
@@ -118,21 +122,23 @@ fn simple(
     input: &[u8],
 ) -> Result<(CStmt, &[u8]), Halt>
     requires small { AreSmall names }
-    requires within { keyword < 10 }
+    requires within { keyword < 12 }
     requires may { get_or (may (scope names) room) (keyword + 1) false ≡ true }
     ensures { Reads Any (StmtBehind (scope names) room keyword) input.now result }
 {
     match keyword {
         0 => Ok((CStmt::Return, input)),
-        1 => set_local(alloc, names, room, input),
-        2 => set_global(alloc, names, room, input),
-        3 => store_local(alloc, names, room, input),
-        4 => store_global(alloc, names, room, input),
-        5 => free(names, room, input),
-        6 => put_num(alloc, names, room, input),
-        7 => put_char(alloc, names, room, input),
-        8 => location(alloc, names, room, input),
-        9 => called(names, input),
+        1 => Ok((CStmt::Enter, input)),
+        2 => Ok((CStmt::Leave, input)),
+        3 => set_local(alloc, names, room, input),
+        4 => set_global(alloc, names, room, input),
+        5 => store_local(alloc, names, room, input),
+        6 => store_global(alloc, names, room, input),
+        7 => free(names, room, input),
+        8 => put_num(alloc, names, room, input),
+        9 => put_char(alloc, names, room, input),
+        10 => location(alloc, names, room, input),
+        11 => called(names, input),
         _ => unreachable!(),
     }
 }
@@ -241,21 +247,21 @@ fn statement(
     input: &[u8],
 ) -> Result<(CStmt, &[u8]), Halt>
     requires small { AreSmall names }
-    requires within { keyword < 13 }
+    requires within { keyword < 15 }
     requires may { get_or (may (scope names) room) (keyword + 1) false ≡ true }
     ensures { Reads Any (StmtBehind (scope names) room keyword) input.now result }
 {
-    if keyword < 10 {
+    if keyword < 12 {
         return simple(alloc, names, room, keyword, input);
     }
     let inside = match inner(room) {
         None => unreachable!(),
         Some(inside) => inside,
     };
-    if keyword == 10 {
+    if keyword == 12 {
         return condition(alloc, names, room, inside, input);
     }
-    if keyword == 11 {
+    if keyword == 13 {
         return repetition(alloc, names, room, inside, input);
     }
     selection(alloc, names, inside, input)
@@ -327,7 +333,7 @@ pub(crate) fn block_behind(
     input: &[u8],
 ) -> Result<(Items<CStmt>, &[u8]), Halt>
     requires small { AreSmall names }
-    requires within { keyword < 14 }
+    requires within { keyword < 16 }
     requires may { get_or (may (scope names) room) keyword false ≡ true }
     ensures { Reads Any (BlockBehind (scope names) room keyword) input.now result }
 {

@@ -79,11 +79,11 @@ fn behind_opening(
     input: &[u8],
 ) -> Result<(CFunction, &[u8]), Halt>
     requires some { 0 < counts.functions }
-    requires within { number < 15 }
+    requires within { number < 17 }
     requires may { get_or (opening_may (scope_in mode.free counts ints 0) mode.limit true false) number false ≡ true }
     ensures { Reads Any (Opened mode counts ints number) input.now result }
 {
-    if number == 14 {
+    if number == 16 {
         return with_bufs(alloc, mode, counts, ints, input);
     }
     let names = names_of(mode, counts, ints, 0);
@@ -127,7 +127,7 @@ pub(crate) fn function(
 {
     let names = names_of(mode, counts, 0, 0);
     let (i, rest) = opening(names, mode.limit, true, true, input)?;
-    if i != 15 {
+    if i != 17 {
         return behind_opening(alloc, mode, counts, 0, i, rest);
     }
     let (ints, rest) = more_names(b"v", b"", rest)?;

@@ -119,7 +119,7 @@ pub(crate) fn set_local(
 ) -> Result<(CStmt, &[u8]), Halt>
     requires small { AreSmall names }
     requires some { 0 < names.ints }
-    ensures { Reads Any (StmtBehind (scope names) room 1) input.now result }
+    ensures { Reads Any (StmtBehind (scope names) room 3) input.now result }
 {
     let (n, rest) = number_then(names.ints, b" = ", input)?;
     assigned(alloc, names, room, Int::Local(n as u32), rest)
@@ -134,7 +134,7 @@ pub(crate) fn set_global(
 ) -> Result<(CStmt, &[u8]), Halt>
     requires small { AreSmall names }
     requires some { 0 < names.global_ints }
-    ensures { Reads Any (StmtBehind (scope names) room 2) input.now result }
+    ensures { Reads Any (StmtBehind (scope names) room 4) input.now result }
 {
     let (n, rest) = number_then(names.global_ints, b" = ", input)?;
     assigned(alloc, names, room, Int::Global(n as u32), rest)
@@ -147,7 +147,7 @@ pub(crate) fn put_num(
     input: &[u8],
 ) -> Result<(CStmt, &[u8]), Halt>
     requires small { AreSmall names }
-    ensures { Reads Any (StmtBehind (scope names) room 6) input.now result }
+    ensures { Reads Any (StmtBehind (scope names) room 8) input.now result }
 {
     let ((e, f), rest) = two_exprs(alloc, names, room, b", ", b");\n", input)?;
     Ok((CStmt::PutNum(e, f), rest))
@@ -160,7 +160,7 @@ pub(crate) fn put_char(
     input: &[u8],
 ) -> Result<(CStmt, &[u8]), Halt>
     requires small { AreSmall names }
-    ensures { Reads Any (StmtBehind (scope names) room 7) input.now result }
+    ensures { Reads Any (StmtBehind (scope names) room 9) input.now result }
 {
     let (e, rest) = expr_then(alloc, names, room, b");\n", input)?;
     Ok((CStmt::PutChar(e), rest))
@@ -213,7 +213,7 @@ fn buf_then<'a>(names: Names, text: &[u8], input: &'a [u8]) -> Result<(Buf, &'a 
 pub(crate) fn free(names: Names, room: Option<u32>, input: &[u8]) -> Result<(CStmt, &[u8]), Halt>
     requires small { AreSmall names }
     requires some { some_of names.bufs names.global_bufs ≡ true }
-    ensures { Reads Any (StmtBehind (scope names) room 5) input.now result }
+    ensures { Reads Any (StmtBehind (scope names) room 7) input.now result }
 {
     let (p, rest) = buf_then(names, b");\n", input)?;
     Ok((CStmt::Free(p), rest))
@@ -367,7 +367,7 @@ pub(crate) fn store_local(
 ) -> Result<(CStmt, &[u8]), Halt>
     requires small { AreSmall names }
     requires some { 0 < names.bufs }
-    ensures { Reads Any (StmtBehind (scope names) room 3) input.now result }
+    ensures { Reads Any (StmtBehind (scope names) room 5) input.now result }
 {
     let ((n, sign), rest) = signed(names.bufs, input)?;
     stored(alloc, names, room, Buf::Local(n), sign, rest)
@@ -382,7 +382,7 @@ pub(crate) fn store_global(
 ) -> Result<(CStmt, &[u8]), Halt>
     requires small { AreSmall names }
     requires some { 0 < names.global_bufs }
-    ensures { Reads Any (StmtBehind (scope names) room 4) input.now result }
+    ensures { Reads Any (StmtBehind (scope names) room 6) input.now result }
 {
     let ((n, sign), rest) = signed(names.global_bufs, input)?;
     stored(alloc, names, room, Buf::Global(n), sign, rest)
@@ -446,7 +446,7 @@ pub(crate) fn location(
     input: &[u8],
 ) -> Result<(CStmt, &[u8]), Halt>
     requires small { AreSmall names }
-    ensures { Reads Any (StmtBehind (scope names) room 8) input.now result }
+    ensures { Reads Any (StmtBehind (scope names) room 10) input.now result }
 {
     let (name, rest) = name(alloc, input)?;
     let (n, rest) = number_then(1 << 63, b");\n", rest)?;

@@ -41,6 +41,8 @@ h0 = read_nums();
 v0 = read_n;
 at("MAIN", 1);
 at("∆x_1⍙", 9223372036854775807);
+enter();
+leave();
 fault(0);
 fault(6);
 f2();
@@ -126,11 +128,11 @@ fn values(rt: HostRuntime) -> Result<(), Fail> {
     assert!(rt; functions[1].ints == 0 && functions[1].bufs == 1);
     assert!(rt; functions[2].ints == 1 && functions[2].bufs == 0);
     let body = functions[0].body.as_slice();
-    assert!(rt; body.len() == 28);
+    assert!(rt; body.len() == 30);
     assert!(rt; matches!(&body[0], CStmt::Set(Int::Local(0), CExpr::Lit(3))));
     assert!(rt; matches!(&body[4], CStmt::SetBuf(Buf::Local(0), Some(Buf::Local(1)))));
     assert!(rt; matches!(&body[18], CStmt::ReadCount(Int::Local(0))));
-    assert!(rt; matches!(&body[24], CStmt::Return));
+    assert!(rt; matches!(&body[26], CStmt::Return));
     Ok(())
 }
 
@@ -168,6 +170,9 @@ const HEAD: &[u8] = b"static void f0(void);\nstatic void f0(void) {\n";
 
 const END: &[u8] = b"}\n";
 
+/// How a preamble of one place begins, in its sixth line.
+const ONE_PLACE: &[u8] = b"static const char *at_name = \"\";\n";
+
 #[test]
 fn lines_of_a_function(rt: HostRuntime) -> Result<(), Fail> {
     let alloc = rt.alloc();
@@ -191,7 +196,7 @@ fn lines_of_a_function(rt: HostRuntime) -> Result<(), Fail> {
         ("put_char(10LL);\n\n", 32, 61),
         ("at(\"9\", 1);\n", 32, 49),
         ("at(\"A\u{2200}\", 1);\n", 31, 52),
-        ("leave();\n", 32, 45),
+        ("leaves();\n", 32, 50),
         ("return;\n}\n}\n", 32, 55),
     ];
     for (lines, number, place) in cases {
@@ -248,6 +253,11 @@ fn preamble_and_tail(rt: HostRuntime) -> Result<(), Fail> {
     assert!(rt; refusal_of(alloc, b"x") == at(30, 0));
     assert!(rt; refusal_of(alloc, preamble) == at(30, preamble.len()));
     assert!(rt; refusal_of(alloc, but_last(whole)) == at(32, but_last(whole).len()));
+    let front = preamble_bytes();
+    assert!(rt; front.len() > 202);
+    let mut one_place = Vec::from_slice(alloc, &front[..202])?;
+    one_place.extend_from_slice(ONE_PLACE)?;
+    assert!(rt; refusal_of(alloc, &one_place) == at(30, 228));
     let more = text(alloc, &[HEAD, END, tail_bytes(), b"x"])?;
     assert!(rt; refusal_of(alloc, &more) == at(32, whole.len()));
     let control = text(alloc, &[HEAD, END, tail_bytes(), &[7]])?;

@@ -53,14 +53,14 @@ block_then-returns-in_err-rest t c = let p = err_from_is_err_and c.from_residual
 pub block_then-returns : goal.block_then-returns
 block_then-returns t c = within_found (within_block_then (scope c.args.names) c.args.room _) (bind_found (joint_block_then (scope c.args.names) c.args.room _) c.in_ok-body.ensures (found_map (λ u. c.in_ok-body.body) c.in_ok-rest.ensures))
 
-pub statement-returns-then-keyword-eq10 : goal.statement-returns-then-keyword-eq10
-statement-returns-then-keyword-eq10 t c = subst (λ i. Reads Any (StmtBehind (scope c.args.names) c.args.room i) c.args.input.now c.condition.result) (sym c.if-keyword-eq10.true) (inner_reads (IfBehind (scope c.args.names) c.args.room) _ _ _ _ c.in-Some.ensures c.condition.ensures)
+pub statement-returns-then-keyword-eq12 : goal.statement-returns-then-keyword-eq12
+statement-returns-then-keyword-eq12 t c = subst (λ i. Reads Any (StmtBehind (scope c.args.names) c.args.room i) c.args.input.now c.condition.result) (sym c.if-keyword-eq12.true) (inner_reads (IfBehind (scope c.args.names) c.args.room) _ _ _ _ c.in-Some.ensures c.condition.ensures)
 
-pub statement-returns-then-keyword-eq11 : goal.statement-returns-then-keyword-eq11
-statement-returns-then-keyword-eq11 t c = subst (λ i. Reads Any (StmtBehind (scope c.args.names) c.args.room i) c.args.input.now c.repetition.result) (sym c.if-keyword-eq11.true) (inner_reads (WhileBehind (scope c.args.names) c.args.room) _ _ _ _ c.in-Some.ensures c.repetition.ensures)
+pub statement-returns-then-keyword-eq13 : goal.statement-returns-then-keyword-eq13
+statement-returns-then-keyword-eq13 t c = subst (λ i. Reads Any (StmtBehind (scope c.args.names) c.args.room i) c.args.input.now c.repetition.result) (sym c.if-keyword-eq13.true) (inner_reads (WhileBehind (scope c.args.names) c.args.room) _ _ _ _ c.in-Some.ensures c.repetition.ensures)
 
 pub statement-returns : goal.statement-returns
-statement-returns t c = subst (λ i. Reads Any (StmtBehind (scope c.args.names) c.args.room i) c.args.input.now c.selection.result) (let e : 12 ≡ c.args.keyword = omega (arith, c.requires.within, c.if-keyword-lt10.false, c.if-keyword-eq10.false, c.if-keyword-eq11.false) in e) (inner_reads (SwitchBehind (scope c.args.names)) _ _ _ _ c.in-Some.ensures c.selection.ensures)
+statement-returns t c = subst (λ i. Reads Any (StmtBehind (scope c.args.names) c.args.room i) c.args.input.now c.selection.result) (let e : 14 ≡ c.args.keyword = omega (arith, c.requires.within, c.if-keyword-lt12.false, c.if-keyword-eq12.false, c.if-keyword-eq13.false) in e) (inner_reads (SwitchBehind (scope c.args.names)) _ _ _ _ c.in-Some.ensures c.selection.ensures)
 
 pub statements-returns-in_err-keyword : goal.statements-returns-in_err-keyword
 statements-returns-in_err-keyword t c = let p = err_from_is_err_and c.from_residual.result c.from_residual.ensures.1 in rw (p.1, p.2) (lines_keyword c.args.before.items c.lines.body.items c.requires.small.some c.lines.invariant c.in_err-keyword.ensures)

@@ -61,6 +61,16 @@ start_flat e ints bufs mark = record {
   steps = 0;
 }
 
+-- the cells that a machine holds, the most that it held after a step, and the steps that it took
+abbrev pub cells_held : Machine → ℕ
+cells_held m = m.live.heap.held
+
+abbrev pub cells_at_most : Machine → ℕ
+cells_at_most m = m.live.peak
+
+abbrev pub steps_taken : Machine → ℕ
+steps_taken m = m.live.steps
+
 -- whether a machine can run
 abbrev pub CanRun : Machine → Type 0
 CanRun m = IsTrue m.ready

@@ -6,7 +6,7 @@ ghost use Rattle.aplc_cprof.specs.declared.syntax.CProgram.{CProgram};
 ghost use Rattle.aplc_cprof.specs.Machine.{State, code_of, initial, held};
 ghost use Rattle.aplc_crun.specs.Flat.{flat_of};
 ghost use Rattle.aplc_crun.specs.Laying.{marked_name, marked_line};
-ghost use Rattle.aplc_crun.specs.Running.{Stands, StartsAt, start_flat, CanRun, place_name, place_line};
+ghost use Rattle.aplc_crun.specs.Running.{Stands, StartsAt, start_flat, CanRun, place_name, place_line, cells_held, cells_at_most, steps_taken};
 ghost use Rattle.aplc_crun.specs.Ran.{Ran};
 
 use crate::code::{Entry, Laid, Node};
@@ -171,21 +171,24 @@ impl Machine {
 
     /// The cells of the buffers that are not freed.
     pub fn cells(&self) -> u128
-        ensures { (p : CProgram) (given more : List ℕ) (st : State) → Stands p self.now given more st → result ≡ held st }
+        ensures told { result ≡ cells_held self.now }
+        ensures stands { (p : CProgram) (given more : List ℕ) (st : State) → Stands p self.now given more st → result ≡ held st }
     {
         self.live.heap.held
     }
 
     /// The most cells that were held after a step.
     pub fn peak(&self) -> u128
-        ensures { (p : CProgram) (given more : List ℕ) (st : State) → Stands p self.now given more st → result ≡ st.peak }
+        ensures told { result ≡ cells_at_most self.now }
+        ensures stands { (p : CProgram) (given more : List ℕ) (st : State) → Stands p self.now given more st → result ≡ st.peak }
     {
         self.live.peak
     }
 
     /// The steps that were taken.
     pub fn steps(&self) -> u64
-        ensures { (p : CProgram) (given more : List ℕ) (st : State) → Stands p self.now given more st → result ≡ st.steps }
+        ensures told { result ≡ steps_taken self.now }
+        ensures stands { (p : CProgram) (given more : List ℕ) (st : State) → Stands p self.now given more st → result ≡ st.steps }
     {
         self.live.steps
     }

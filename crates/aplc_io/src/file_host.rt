@@ -1,5 +1,5 @@
 //! The host of the runtime: files, and the standard output for a text without a name.
-//! The calls are trusted, the faults are counted; it tells neither files nor text.
+//! It passes on the bytes of what it opens, and counts the faults; its users are told neither files nor text.
 ghost use Rattle.std.specs.Prelude.{None, false, ◌≡◌, ◌+◌, ◌<◌, ◌≤◌, length, take, Ok, IsNone, IsOk, IsErr, IfOk, IfErr, IfSome, OnOk, OnErr, IsErrOf, option_map};
 ghost use Rattle.aplc_io.specs.Outside.{next, more, IsFile, FetchStops, text_begun, TextNotBegun, text_with, TextFails};
 ghost use Rattle.aplc_io.specs.Adapters.{route_of, runtime_state, Took};

@@ -1,5 +1,5 @@
-//! Readers and writers of the runtime as a source and a sink: the calls are trusted, the faults are counted.
-//! They tell no bytes.
+//! Readers and writers of the runtime as a source and a sink: they pass on the bytes of what they hold, and count the
+//! faults. Their users are not told the bytes.
 ghost use Rattle.std.specs.Prelude.{◌≡◌, ◌<◌, ◌≤◌, None, length, take, false, IfOk, OnErr, ◌||◌};
 ghost use Rattle.std.specs.Io.KnownBytes.{ReadConsumes, WriteAppends};
 ghost use Rattle.aplc_io.specs.Outside.{next, is_end, later_read, SourceGives, SourceFails, IsAtEnd, SinkFails, sink_with};

@@ -24,22 +24,24 @@ use Rattle.aplc_crun.proofs.Standing.{run_comes}
 -- the pending output was handed over
 empty_stands : (p : CProgram) (m : Machine) (live : Live) (given more : List ℕ) (st : State) → flat_of live ≡ emptied (flat_of m.live) → Stands p m given more st → Stands p (record m { live = live }) (given ++ m.live.out.bytes.items) more st
 empty_stands p m live given more st e s =
-    let w : Setting = setting s.due m.laid (given ++ m.live.out.bytes.items) (m.ahead.items ++ more) in
-    let room : Sound (globals p.ints p.bufs) s.due (emptied (flat_of m.live)) = record { ints = s.sound.ints; bufs = s.sound.bufs; global_ints = s.sound.global_ints; global_bufs = s.sound.global_bufs; callers = s.sound.callers; held = s.sound.held } in
+    let w : Setting = setting s.due m.laid s.marks (given ++ m.live.out.bytes.items) (m.ahead.items ++ more) in
+    let room : Sound (globals p.ints p.bufs) s.due s.marks (emptied (flat_of m.live)) = record { ints = s.sound.ints; bufs = s.sound.bufs; global_ints = s.sound.global_ints; global_bufs = s.sound.global_bufs; callers = s.sound.callers; held = s.sound.held; marks = s.sound.marks } in
     record {
       due = s.due;
       laid = s.laid;
       program = s.program;
-      sound = subst (λ (f : Flat). Sound (globals p.ints p.bufs) s.due f) (sym e) room;
+      marks = s.marks;
+      few = subst (λ (n : ℕ). length s.marks ≤ n) (sym (ap (λ (f : Flat). f.steps) e)) s.few;
+      sound = subst (λ (f : Flat). Sound (globals p.ints p.bufs) s.due s.marks f) (sym e) room;
       state =
           s.state
           ∙ ap (λ (o : List ℕ). record (state_of w (emptied (flat_of m.live))) { output = o }) (sym (append-nil (given ++ m.live.out.bytes.items)))
           ∙ ap (λ (f : Flat). state_of w f) (sym e);
     }
 
-round_comes : (p : CProgram) (m : Machine) (mid live : Live) (v : Verdict) (steps : ℕ) (given more : List ℕ) (st : State) → paused v (flat_of mid) ≡ flat_run (layout_of m.laid) steps (flat_of m.live) → flat_of live ≡ emptied (flat_of mid) → Stands p m given more st → Comes p v (record m { live = live }) (given ++ mid.out.bytes.items) more (run (code_of p) steps st)
-round_comes p m mid live v steps given more st ran e s =
-    let c : Comes p v (record m { live = mid }) given more (run (code_of p) steps st) = run_comes p m mid v steps given more st ran s in
+round_comes : (p : CProgram) (m : Machine) (mid live : Live) (v : Verdict) (steps : ℕ) (given more : List ℕ) (st : State) → m.live.steps + steps ≤ mid.steps → paused v (flat_of mid) ≡ flat_run (layout_of m.laid) steps (flat_of m.live) → flat_of live ≡ emptied (flat_of mid) → Stands p m given more st → Comes p v (record m { live = live }) (given ++ mid.out.bytes.items) more (run (code_of p) steps st)
+round_comes p m mid live v steps given more st later ran e s =
+    let c : Comes p v (record m { live = mid }) given more (run (code_of p) steps st) = run_comes p m mid v steps given more st later ran s in
     let same : mid.at ≡ live.at = sym (ap (λ (f : Flat). f.at) e) in
     record {
       state = c.state;
@@ -57,7 +59,7 @@ round_ok m mid live v old new least ran e wrote =
       later = omega arith;
       comes = λ p given more st s.
           subst (λ (n : ℕ). Comes p v (record m { live = live }) (given ++ mid.out.bytes.items) more (run (code_of p) (n - m.live.steps) st)) (sym same)
-          (round_comes p m mid live v (mid.steps - m.live.steps) given more st ran e s);
+          (round_comes p m mid live v (mid.steps - m.live.steps) given more st (omega (arith, least)) ran e s);
     }
 
 -- steps were taken, and the sink refused what they wrote
@@ -75,7 +77,7 @@ round_cut m mid live v old new least ran e part =
       later = omega arith;
       comes = λ p given more st s.
           subst (λ (xs : List ℕ). Comes p v (record m { live = live }) xs more (run (code_of p) (live.steps - m.live.steps) st)) (sym (append-nil given))
-          (run_comes p m live v (live.steps - m.live.steps) given more st ran2 s);
+          (run_comes p m live v (live.steps - m.live.steps) given more st (omega (arith, least, same)) ran2 s);
     }
 
 -- the same where memory was refused afterwards

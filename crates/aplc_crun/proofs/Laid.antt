@@ -13,7 +13,7 @@ use Rattle.aplc_cprof.specs.declared.syntax.CStmt.TheVariants as stmt
 use Rattle.aplc_cprof.specs.declared.syntax.Arm.{Arm}
 use Rattle.aplc_cprof.specs.declared.syntax.CFunction.{CFunction}
 use Rattle.aplc_cprof.specs.Machine.{Todo, size, total, numbered, bodies_from}
-use Rattle.aplc_cprof.proofs.Values.{size_Set, size_SetCell, size_SetBuf, size_Cells, size_Free, size_Check, size_Width, size_PutNum, size_PutChar, size_ReadText, size_ReadNums, size_ReadCount, size_At, size_Fault, size_Call, size_Return}
+use Rattle.aplc_cprof.proofs.Values.{size_Set, size_SetCell, size_SetBuf, size_Cells, size_Free, size_Check, size_Width, size_PutNum, size_PutChar, size_ReadText, size_ReadNums, size_ReadCount, size_At, size_Enter, size_Leave, size_Fault, size_Call, size_Return}
 use Rattle.aplc_crun.specs.Terms.{expr_of, IsTerm}
 use Rattle.aplc_crun.specs.declared.term.Term.{Term}
 use Rattle.aplc_crun.specs.declared.code.Node.{Node}
@@ -91,6 +91,12 @@ pub laid_At : (r : Room) (old new : List Node) (name : List ℕ) (line : ℤ) (n
 laid_At r old new name line name2 next is_name h =
     laid_leaf r old new (form.At name line next) (stmt.At name line) next (h ∙ ap (λ y. old ++ form.At y line next ∷ []) is_name) (size_At name line) (λ k w e0. onward_at r k (length old) (stmt.At name line) next w e0)
 
+pub laid_Enter : (r : Room) (old new : List Node) (next : ℕ) → new ≡ old ++ form.Enter next ∷ [] → LaidStmt r old new stmt.Enter next
+laid_Enter r old new next h = laid_leaf r old new (form.Enter next) stmt.Enter next h size_Enter (λ k w e0. onward_at r k (length old) stmt.Enter next w e0)
+
+pub laid_Leave : (r : Room) (old new : List Node) (next : ℕ) → new ≡ old ++ form.Leave next ∷ [] → LaidStmt r old new stmt.Leave next
+laid_Leave r old new next h = laid_leaf r old new (form.Leave next) stmt.Leave next h size_Leave (λ k w e0. onward_at r k (length old) stmt.Leave next w e0)
+
 pub laid_Call : (r : Room) (old new : List Node) (c : ℕ) (next : ℕ) → new ≡ old ++ form.Call c next ∷ [] → LaidStmt r old new (stmt.Call c) next
 laid_Call r old new c next h =
     laid_leaf r old new (form.Call c next) (stmt.Call c) next (h) (size_Call c) (λ k w e0. onward_at r k (length old) (stmt.Call c) next w e0)
@@ -101,7 +107,7 @@ laid_Fault r old new kind next h = laid_leaf r old new (form.Fault kind) (stmt.F
 pub laid_Return : (r : Room) (old new : List Node) (next : ℕ) → new ≡ old ++ form.Return ∷ [] → LaidStmt r old new stmt.Return next
 laid_Return r old new next h = laid_leaf r old new form.Return stmt.Return next h size_Return (λ k w e0. last_at r k (length old) stmt.Return next e0)
 
-pub ruleset leaves = (laid_Set, laid_SetCell, laid_SetBuf, laid_Cells, laid_Free, laid_Check, laid_Width, laid_PutNum, laid_PutChar, laid_ReadText, laid_ReadNums, laid_ReadCount, laid_At, laid_Call, laid_Fault, laid_Return)
+pub ruleset leaves = (laid_Set, laid_SetCell, laid_SetBuf, laid_Cells, laid_Free, laid_Check, laid_Width, laid_PutNum, laid_PutChar, laid_ReadText, laid_ReadNums, laid_ReadCount, laid_At, laid_Enter, laid_Leave, laid_Call, laid_Fault, laid_Return)
 
 -- ---- Statements that hold statements
 
@@ -233,7 +239,7 @@ laid_arms_next r old mid new arms i next a body b q is_body is_a within =
     } in
     subst (λ (ys : List Arm). LaidArms r old new ys next) more all
 
-pub ruleset lays = (laid_empty, laid_Fault, laid_Return, laid_while, laid_if, laid_else, laid_switch, laid_none, laid_next, laid_last, laid_arms_none, laid_arms_next)
+pub ruleset lays = (laid_empty, laid_Enter, laid_Leave, laid_Fault, laid_Return, laid_while, laid_if, laid_else, laid_switch, laid_none, laid_next, laid_last, laid_arms_none, laid_arms_next)
 
 -- ---- Functions
 
@@ -288,7 +294,7 @@ laid_function g old new es fs f p b = record {
         subst (λ (t : Todo). Agrees k (length old) (b.ok.dues t)) (sym (ap (λ (s : Spot). s.todo) (p.leaves k (agrees_first k 0 p.dues (b.ok.dues []) h))))
         (agrees_second k 0 (length old) p.dues (b.ok.dues []) (let i = p.lengths in omega arith) h)
 
-pub functions_none : (g : Globals) → LaidFunctions g (form.Leave ∷ []) [] []
+pub functions_none : (g : Globals) → LaidFunctions g (form.End ∷ []) [] []
 functions_none g = record {
   size_is = refl;
   dues = nowhere ∷ [];

@@ -1,5 +1,5 @@
 -- A read that is due: the bytes that are read ahead for it, and the line that it takes.
-use Rattle.std.proofs.Common.{◌≡◌, ◌∙◌, ap, sym, refl, subst, ℕ, zero, ◌+◌, ◌-◌, ◌<◌, ◌^◌, List, [], ◌∷◌, ◌++◌, length, take, drop, append_assoc, append-nil, arith, zero-add, Bool, ℤ, pos, Option, Some, None, option_and_then, Vec}
+use Rattle.std.proofs.Common.{◌≡◌, ◌∙◌, ap, sym, refl, subst, ℕ, zero, ◌+◌, ◌-◌, ◌<◌, ◌≤◌, ◌^◌, List, [], ◌∷◌, ◌++◌, length, take, drop, append_assoc, append-nil, arith, zero-add, Bool, ℤ, pos, Option, Some, None, option_and_then, Vec}
 use Rattle.std.specs.Prelude.{IsTrue, slice_get, sum_by, Err}
 use Rattle.std.proofs.lemmas.List.{length-map}
 use Rattle.std.specs.Str.{chars}
@@ -17,7 +17,7 @@ use Rattle.aplc_cprof.specs.declared.syntax.Buf.TheVariants as buf
 use Rattle.aplc_cprof.specs.declared.syntax.CStmt.{CStmt}
 use Rattle.aplc_cprof.specs.declared.syntax.CStmt.TheVariants as stmt
 use Rattle.aplc_cprof.specs.declared.syntax.CProgram.{CProgram}
-use Rattle.aplc_cprof.specs.Machine.{State, Todo, Code, Next, run, step, code_of, and_then, settled, settled_next, read_cells, with_line, onward, due, act, cells_of}
+use Rattle.aplc_cprof.specs.Machine.{Place, State, Todo, Code, Next, run, step, code_of, and_then, settled, settled_next, read_cells, with_line, onward, due, act, cells_of}
 use Rattle.aplc_cprof.specs.Machine as machine
 use Rattle.aplc_crun.specs.declared.code.Node.{Node}
 use Rattle.aplc_crun.specs.declared.code.Node.TheVariants as form
@@ -116,13 +116,14 @@ read_within : (g : Globals) (k : Due) (n : ℕ) (kd : Form) (p : Buf) (next : �
 read_within g k n kind.Text p next ok = ok.1
 read_within g k n kind.Numbers p next ok = ok.1
 
-put_sound : (g : Globals) (k : Due) (cells : List ℤ) (f : Flat) → Sound g k f → Sound g k (with_read cells f)
-put_sound g k cells f sound = record {
+put_sound : (g : Globals) (k : Due) (ms : List Place) (cells : List ℤ) (f : Flat) → Sound g k ms f → Sound g k ms (with_read cells f)
+put_sound g k ms cells f sound = record {
   ints = sound.ints;
   bufs = sound.bufs;
   global_ints = sound.global_ints;
   global_bufs = sound.global_bufs;
   callers = sound.callers;
+  marks = sound.marks;
   held =
       let e : sum_by cells_of (f.heap ++ Some cells ∷ []) ≡ sum_by cells_of f.heap + length cells = held_more f.heap (Some cells) in
       omega (arith, sound.held);
@@ -132,10 +133,10 @@ put_sound g k cells f sound = record {
 abbrev left_in : Setting → List ℕ → Setting
 left_in s left = record s { input = left }
 
-line_meets : (g : Globals) (s : Setting) (f : Flat) (kd : Form) (p : Buf) (next : ℕ) (cells : List ℤ) (left : List ℕ) → NodeOk g s.due f.at (node_of kd p next) → Sound g s.due f → Meet g (left_in s left) (counted (lined p cells next f)) (machine.Going (state_of (left_in s left) (counted (lined p cells next f)))) (settled_next (read_cells p (Line cells left) (s.due next).todo (state_of s f)))
+line_meets : (g : Globals) (s : Setting) (f : Flat) (kd : Form) (p : Buf) (next : ℕ) (cells : List ℤ) (left : List ℕ) → NodeOk g s.due f.at (node_of kd p next) → Sound g s.due s.marks f → Meet g (left_in s left) (counted (lined p cells next f)) (machine.Going (state_of (left_in s left) (counted (lined p cells next f)))) (settled_next (read_cells p (Line cells left) (s.due next).todo (state_of s f)))
 line_meets g s f kd p next cells left ok sound =
     settle_meets g (left_in s left) (Going (lined p cells next f)) _
-    (buf_meets g (left_in s left) p (Some (length f.heap)) next (with_read cells f) (read_falls g s.due f.at kd p next ok) (read_within g s.due f.at kd p next ok) (put_sound g s.due cells f sound))
+    (buf_meets g (left_in s left) p (Some (length f.heap)) next (with_read cells f) (read_falls g s.due f.at kd p next ok) (read_within g s.due f.at kd p next ok) (put_sound g s.due s.marks cells f sound))
 
 run_one : (c : Code) (st : State) → run c 1 st ≡ step c st
 run_one c st = by_next (step c st)
@@ -158,11 +159,13 @@ ahead_stands p m v e taken given more st is s = record {
   due = s.due;
   laid = s.laid;
   program = s.program;
+  marks = s.marks;
+  few = s.few;
   sound = s.sound;
   state =
       s.state
-      ∙ ap (λ (i : List ℕ). state_of (record { due = s.due; nodes = m.laid.nodes.items; given = given; input = i }) (flat_of m.live)) (sym (append_assoc m.ahead.items taken more))
-      ∙ ap (λ (xs : List ℕ). state_of (setting s.due m.laid given (xs ++ more)) (flat_of m.live)) (sym is);
+      ∙ ap (λ (i : List ℕ). state_of (record { due = s.due; nodes = m.laid.nodes.items; marks = s.marks; given = given; input = i }) (flat_of m.live)) (sym (append_assoc m.ahead.items taken more))
+      ∙ ap (λ (xs : List ℕ). state_of (setting s.due m.laid s.marks given (xs ++ more)) (flat_of m.live)) (sym is);
 }
 
 pub no_steps : (n : ℕ) → 0 ≡ n - n
@@ -223,8 +226,10 @@ waited m live e = record {
       due = s.due;
       laid = s.laid;
       program = s.program;
-      sound = subst (λ (f : Flat). Sound (globals p.ints p.bufs) s.due f) (sym e) s.sound;
-      state = s.state ∙ ap (λ (f : Flat). state_of (setting s.due m.laid given (m.ahead.items ++ more)) f) (sym e);
+      marks = s.marks;
+      few = subst (λ (n : ℕ). length s.marks ≤ n) (sym (ap (λ (f : Flat). f.steps) e)) s.few;
+      sound = subst (λ (f : Flat). Sound (globals p.ints p.bufs) s.due s.marks f) (sym e) s.sound;
+      state = s.state ∙ ap (λ (f : Flat). state_of (setting s.due m.laid s.marks given (m.ahead.items ++ more)) f) (sym e);
     };
   };
 }
@@ -238,7 +243,7 @@ faulted m live kd p next k here reads e = record {
   silent = ap (λ (f : Flat). f.output) e;
   comes = λ prog given more st none s.
       let g : Globals = globals prog.ints prog.bufs in
-      let w : Setting = setting s.due m.laid given (m.ahead.items ++ more) in
+      let w : Setting = setting s.due m.laid s.marks given (m.ahead.items ++ more) in
       let ok = node_here g s.due m.laid.nodes.items m.live.at (node_of kd p next) s.laid.nodes here in
       record {
         state = state_of w (flat_of live);
@@ -254,7 +259,9 @@ faulted m live kd p next k here reads e = record {
           due = s.due;
           laid = s.laid;
           program = s.program;
-          sound = subst (λ (f : Flat). Sound g s.due f) (sym e) (counted_sound g s.due (flat_of m.live) s.sound);
+          marks = s.marks;
+          few = let one : live.steps ≡ m.live.steps + 1 = ap (λ (f : Flat). f.steps) e in omega (arith, s.few);
+          sound = subst (λ (f : Flat). Sound g s.due s.marks f) (sym e) (counted_sound g s.due s.marks (flat_of m.live) s.sound);
           state = refl;
         };
       };
@@ -269,8 +276,8 @@ taken_line m live v kd p next cells here reads e = record {
   silent = ap (λ (f : Flat). f.output) e ∙ lined_output p;
   comes = λ prog given more st none s.
       let g : Globals = globals prog.ints prog.bufs in
-      let w : Setting = setting s.due m.laid given (m.ahead.items ++ more) in
-      let u : Setting = setting s.due m.laid given (v.items ++ more) in
+      let w : Setting = setting s.due m.laid s.marks given (m.ahead.items ++ more) in
+      let u : Setting = setting s.due m.laid s.marks given (v.items ++ more) in
       let ok = node_here g s.due m.laid.nodes.items m.live.at (node_of kd p next) s.laid.nodes here in
       let h : Meet g u (counted (lined p cells next (flat_of m.live))) (machine.Going (state_of u (counted (lined p cells next (flat_of m.live))))) (settled_next (read_cells p (Line cells (v.items ++ more)) (s.due next).todo (state_of w (flat_of m.live)))) =
       line_meets g w (flat_of m.live) kd p next cells (v.items ++ more) ok s.sound in
@@ -288,7 +295,9 @@ taken_line m live v kd p next cells here reads e = record {
           due = s.due;
           laid = s.laid;
           program = s.program;
-          sound = subst (λ (f : Flat). Sound g s.due f) (sym e) h.sound;
+          marks = s.marks;
+          few = let one : live.steps ≡ m.live.steps + 1 = ap (λ (f : Flat). f.steps) e ∙ lined_steps p in omega (arith, s.few);
+          sound = subst (λ (f : Flat). Sound g s.due s.marks f) (sym e) h.sound;
           state = refl;
         };
       };

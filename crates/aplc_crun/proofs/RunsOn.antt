@@ -112,10 +112,10 @@ went_none m s k = record {
 -- ---- Whether it can run again
 
 ready_stands : (p : CProgram) (m : Machine) (b : Bool) (given more : List ℕ) (st : State) → Stands p m given more st → Stands p (record m { ready = b }) given more st
-ready_stands p m b given more st s = record { due = s.due; laid = s.laid; program = s.program; sound = s.sound; state = s.state }
+ready_stands p m b given more st s = record { due = s.due; laid = s.laid; program = s.program; marks = s.marks; few = s.few; sound = s.sound; state = s.state }
 
 stands_ready : (p : CProgram) (m : Machine) (b : Bool) (given more : List ℕ) (st : State) → Stands p (record m { ready = b }) given more st → Stands p m given more st
-stands_ready p m b given more st s = record { due = s.due; laid = s.laid; program = s.program; sound = s.sound; state = s.state }
+stands_ready p m b given more st s = record { due = s.due; laid = s.laid; program = s.program; marks = s.marks; few = s.few; sound = s.sound; state = s.state }
 
 went_ready : (m n : Machine) (b : Bool) (v : Verdict) (s t : SourceState) (k l : SinkState) (pending : List ℕ) → Went m s t k l pending v n → Went m s t k l pending v (record n { ready = b })
 went_ready m n b v s t k l pending w = record {

@@ -4,14 +4,14 @@ use Rattle.std.specs.Prelude.{◌^◌, Option, Some, None, Result, Ok, Err, leng
 use Rattle.aplc_cprof.specs.declared.syntax.StuckCause.{StuckCause}
 use Rattle.aplc_cprof.specs.declared.syntax.StuckCause.TheVariants.{Range}
 use Rattle.aplc_cprof.specs.declared.syntax.Buf.{Buf}
-use Rattle.aplc_cprof.specs.Machine.{Value, Is, Bad, value, read_int, named_buf, is_scalar, padded_text, ranged, exact}
+use Rattle.aplc_cprof.specs.Machine.{Value, Is, Bad, most_places, value, read_int, named_buf, is_scalar, padded_text, ranged, exact}
 use Rattle.aplc_crun.specs.Terms.{expr_of}
 use Rattle.aplc_crun.specs.declared.code.Node.{Node}
 use Rattle.aplc_crun.specs.declared.code.Node.TheVariants as form
 use Rattle.aplc_crun.specs.declared.code.Entry.{Entry}
 use Rattle.aplc_crun.specs.declared.live.Verdict.{Verdict}
 use Rattle.aplc_crun.specs.declared.live.Verdict.TheVariants as verdict
-use Rattle.aplc_crun.specs.Flat.{Flat, Kept, Flow, Going, Ended, Faulted, Stuck, Held, Layout, env, with_number, or_limit, go_to, with_buf, with_cells, make_cells, free_found, free_cells, with_heap, write_cell, put_text, put_number, put_character, leave_to, enter, flat_act, act_at, settle, flat_step, flat_then, flat_run, flow_of}
+use Rattle.aplc_crun.specs.Flat.{Flat, Kept, Flow, Going, Ended, Faulted, Stuck, Held, Layout, env, with_number, or_limit, go_to, with_buf, with_cells, make_cells, free_found, free_cells, with_heap, write_cell, put_text, put_number, put_character, leave_to, enter, deeper, back_to, flat_act, act_at, settle, flat_step, flat_then, flat_run, flow_of}
 use Rattle.aplc_crun.specs.Pausing.{paused, IsShort, IsRead, ReadIsDue}
 
 -- where a step is held, nothing has changed, and a fact holds that each reason for it gives
@@ -75,8 +75,15 @@ module _ (f : Flat) (P : Type 0) (short : IsShort f → P) where
   waits_enter None next = tt
   waits_enter (Some e) next = tt
 
+  waits_deeper : (next : ℕ) → Waits (deeper next f)
+  waits_deeper next = waits_cond (nat_lt (length (f.here ∷ f.behind)) most_places) (go_to next (record f { here = None; behind = f.here ∷ f.behind })) (Stuck _ f) (λ e. tt) tt
+
+  waits_back : (ps : List (Option ℕ)) (next : ℕ) → Waits (back_to ps next f)
+  waits_back [] next = tt
+  waits_back (p ∷ ps) next = tt
+
   waits_act : (l : Layout) (nd : Node) → (IsRead nd → P) → Waits (flat_act l nd f)
-  waits_act l form.Leave r = waits_leave f.callers
+  waits_act l form.End r = waits_leave f.callers
   waits_act l (form.Set x e next) r = waits_with (value (expr_of e) l.tables (env f)) _ (λ v. tt)
   waits_act l (form.SetCell p e h next) r = waits_with (value (expr_of e) l.tables (env f)) _ (λ k. waits_with (value (expr_of h) l.tables (env f)) _ (λ v. waits_write (named_buf p (env f)) k v next))
   waits_act l (form.SetBuf p q next) r = tt
@@ -90,6 +97,8 @@ module _ (f : Flat) (P : Type 0) (short : IsShort f → P) where
   waits_act l (form.ReadNums p next) r = (refl, r tt)
   waits_act l (form.ReadCount x next) r = tt
   waits_act l (form.At name line next) r = tt
+  waits_act l (form.Enter next) r = waits_deeper next
+  waits_act l (form.Leave next) r = waits_back f.behind next
   waits_act l (form.Fault k) r = tt
   waits_act l (form.Call k next) r = waits_enter (slice_get l.entries k) next
   waits_act l form.Return r = waits_leave f.callers

@@ -1,5 +1,5 @@
 -- The machine over places: what the laid out code does, on lists.
-use Rattle.std.specs.Prelude.{◌≡◌, ℕ, zero, suc, ◌+◌, ◌-◌, ◌^◌, List, [], ◌∷◌, ◌++◌, length, ℤ, pos, negsuc, Option, Some, None, Result, Ok, Err, slice_set, slice_get, max, if◌then◌else◌, replicate, nat_lt, nat_le, encode_utf8}
+use Rattle.std.specs.Prelude.{◌≡◌, ℕ, zero, suc, ◌+◌, ◌-◌, ◌^◌, List, [], ◌∷◌, ◌++◌, length, ℤ, pos, negsuc, Option, Some, None, Result, Ok, Err, slice_set, slice_get, max, min, reverse, if◌then◌else◌, replicate, nat_lt, nat_le, encode_utf8}
 use Rattle.aplc_scalar.specs.declared.kind.FaultKind.{FaultKind}
 use Rattle.aplc_scalar.specs.declared.kind.FaultKind.TheVariants as fault
 use Rattle.aplc_scalar.specs.Scalar.{int_eq}
@@ -9,7 +9,7 @@ use Rattle.aplc_cprof.specs.declared.syntax.Buf.{Buf}
 use Rattle.aplc_cprof.specs.declared.syntax.Buf.TheVariants as buf
 use Rattle.aplc_cprof.specs.declared.syntax.StuckCause.{StuckCause}
 use Rattle.aplc_cprof.specs.declared.syntax.StuckCause.TheVariants.{Outside, Freed, Range}
-use Rattle.aplc_cprof.specs.Machine.{Value, Is, Bad, State, value, read_int, named_buf, is_zero, ranged, exact, text_width, padded_text, is_scalar}
+use Rattle.aplc_cprof.specs.Machine.{Value, Is, Bad, State, empty_place, most_places, value, read_int, named_buf, is_zero, ranged, exact, text_width, padded_text, is_scalar}
 use Rattle.aplc_crun.specs.Seen.{joined, or_zero, written_in}
 use Rattle.aplc_crun.specs.Terms.{expr_of}
 use Rattle.aplc_crun.specs.declared.code.Node.{Node}
@@ -36,7 +36,9 @@ pub record Flat : Type 0 where
   pub global_bufs : List (Option ℕ)
   pub heap : List (Option (List ℤ))
   pub callers : List Kept
-  pub mark : ℕ
+  pub here : Option ℕ
+  pub behind : List (Option ℕ)
+  pub marks : ℕ
   pub read_count : ℤ
   pub output : List ℕ
   pub held : ℕ
@@ -76,7 +78,9 @@ flat_of l = record {
   global_bufs = l.global_bufs.items;
   heap = l.heap.buffers.items;
   callers = kept_of l.callers.items;
-  mark = l.mark;
+  here = l.places.here;
+  behind = reverse l.places.behind.items;
+  marks = l.marks;
   read_count = l.read_count;
   output = l.out.bytes.items;
   held = l.heap.held;
@@ -94,8 +98,8 @@ env f = record {
   heap = f.heap;
   todo = [];
   callers = [];
-  name = [];
-  line = pos 0;
+  places = record { here = empty_place; behind = [] };
+  marks = [];
   read_count = pos 0;
   input = [];
   output = [];
@@ -178,6 +182,23 @@ abbrev pub leave_to : List Kept → Flat → Flow
 leave_to [] f = Ended f
 leave_to (c ∷ cs) f = Going (record f { at = c.at; ints = c.ints; bufs = c.bufs; callers = cs })
 
+-- no run has more marks than steps, which are counted below 2 ^ 64
+abbrev pub most_marks : ℕ
+most_marks = 2 ^ 64 - 1
+
+-- the innermost place is set by a mark, and the mark is counted
+abbrev pub marked : ℕ → Flat → Flat
+marked n f = record f { here = Some n; marks = min (f.marks + 1) most_marks }
+
+-- a place that no mark has set, before the others
+abbrev pub deeper : ℕ → Flat → Flow
+deeper next f = if nat_lt (length (f.here ∷ f.behind)) most_places then go_to next (record f { here = None; behind = f.here ∷ f.behind }) else Stuck Outside f
+
+-- the innermost place goes
+abbrev pub back_to : List (Option ℕ) → ℕ → Flat → Flow
+back_to [] next f = Stuck Outside f
+back_to (p ∷ ps) next f = go_to next (record f { here = p; behind = ps })
+
 abbrev pub none_of : {A : Type 0} → ℕ → List (Option A)
 none_of n = replicate n None
 
@@ -199,7 +220,7 @@ picked v [] other = other
 picked v (c ∷ cs) other = if int_eq v c.value then c.at else picked v cs other
 
 abbrev pub flat_act : Layout → Node → Flat → Flow
-flat_act l node.Leave f = leave_to f.callers f
+flat_act l node.End f = leave_to f.callers f
 flat_act l (node.Set x e next) f = with_number (value (expr_of e) l.tables (env f)) f (λ v. go_to next (with_int x v f))
 flat_act l (node.SetCell p e g next) f =
     with_number (value (expr_of e) l.tables (env f)) f (λ k. with_number (value (expr_of g) l.tables (env f)) f (λ v. write_cell (named_buf p (env f)) k v next f))
@@ -216,7 +237,9 @@ flat_act l (node.PutChar e next) f = with_number (value (expr_of e) l.tables (en
 flat_act l (node.ReadText p next) f = Held f
 flat_act l (node.ReadNums p next) f = Held f
 flat_act l (node.ReadCount x next) f = go_to next (with_int x f.read_count f)
-flat_act l (node.At name line next) f = go_to next (record f { mark = f.at })
+flat_act l (node.At name line next) f = go_to next (marked f.at f)
+flat_act l (node.Enter next) f = deeper next f
+flat_act l (node.Leave next) f = back_to f.behind next f
 flat_act l (node.Fault k) f = Faulted k f
 flat_act l (node.Call k next) f = enter (slice_get l.entries k) next f
 flat_act l node.Return f = leave_to f.callers f

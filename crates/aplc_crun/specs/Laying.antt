@@ -1,5 +1,5 @@
 -- What it is for nodes to be those of a program, laid out flat.
-use Rattle.std.specs.Prelude.{◌≡◌, ℕ, suc, ◌+◌, ◌<◌, ◌≤◌, List, [], ◌∷◌, ◌++◌, length, ℤ, pos, Option, Some, None, map, slice_get, sum_by}
+use Rattle.std.specs.Prelude.{◌≡◌, ℕ, suc, ◌+◌, ◌<◌, ◌≤◌, List, [], ◌∷◌, ◌++◌, length, min, ℤ, pos, Option, Some, None, map, slice_get, sum_by}
 use Rattle.aplc_cprof.specs.declared.syntax.Int.{Int}
 use Rattle.aplc_cprof.specs.declared.syntax.Int.TheVariants as int
 use Rattle.aplc_cprof.specs.declared.syntax.Buf.{Buf}
@@ -8,9 +8,9 @@ use Rattle.aplc_cprof.specs.declared.syntax.CExpr.{CExpr}
 use Rattle.aplc_cprof.specs.declared.syntax.CStmt.{CStmt}
 use Rattle.aplc_cprof.specs.declared.syntax.CStmt.TheVariants as stmt
 use Rattle.aplc_cprof.specs.declared.syntax.Arm.{Arm}
-use Rattle.aplc_cprof.specs.Machine.{Todo, Code, numbered, numbered_if, chosen, size, total, State, Caller, cells_of}
+use Rattle.aplc_cprof.specs.Machine.{Todo, Code, numbered, numbered_if, chosen, size, total, Place, Places, State, Caller, empty_place, cells_of}
 use Rattle.aplc_crun.specs.Seen.{joined, or_zero}
-use Rattle.aplc_crun.specs.Flat.{Flat, Kept, Layout, picked}
+use Rattle.aplc_crun.specs.Flat.{Flat, Kept, Layout, picked, most_marks}
 use Rattle.aplc_crun.specs.Terms.{expr_of}
 use Rattle.aplc_crun.specs.declared.code.Node.{Node}
 use Rattle.aplc_crun.specs.declared.code.Node.TheVariants as form
@@ -80,7 +80,7 @@ pub record SwitchAt (k : Due) (n : ℕ) (x : Int) (choices : List Choice) (other
 
 -- what a place's statement is to what is due there
 abbrev pub NodeOk : Globals → Due → ℕ → Node → Type 0
-NodeOk g k n form.Leave = (k n).todo ≡ []
+NodeOk g k n form.End = (k n).todo ≡ []
 NodeOk g k n (form.Set x e next) = OnwardAt k n (stmt.Set x (expr_of e)) next × IntIn g (k n) x
 NodeOk g k n (form.SetCell p e f next) = OnwardAt k n (stmt.SetCell p (expr_of e) (expr_of f)) next
 NodeOk g k n (form.SetBuf p q next) = OnwardAt k n (stmt.SetBuf p q) next × BufIn g (k n) p
@@ -94,6 +94,8 @@ NodeOk g k n (form.ReadText p next) = OnwardAt k n (stmt.ReadText p) next × Buf
 NodeOk g k n (form.ReadNums p next) = OnwardAt k n (stmt.ReadNums p) next × BufIn g (k n) p
 NodeOk g k n (form.ReadCount x next) = OnwardAt k n (stmt.ReadCount x) next × IntIn g (k n) x
 NodeOk g k n (form.At name line next) = OnwardAt k n (stmt.At name line) next
+NodeOk g k n (form.Enter next) = OnwardAt k n stmt.Enter next
+NodeOk g k n (form.Leave next) = OnwardAt k n stmt.Leave next
 NodeOk g k n (form.Fault kind) = LastAt k n (stmt.Fault kind)
 NodeOk g k n (form.Call f next) = OnwardAt k n (stmt.Call f) next
 NodeOk g k n form.Return = LastAt k n stmt.Return
@@ -121,28 +123,29 @@ code_for k l = record { tables = l.tables; bodies = map (λ e. (k e.at).todo) l.
 
 -- ---- The state that a machine over places stands for
 
--- what the flat state does not have: what is due, the nodes, the output that was handed over, the input to come
+-- what the flat state does not have: what is due, the nodes, the marks, the output that was handed over, the input to come
 pub record Setting : Type 0 where
   pub due : Due
   pub nodes : List Node
+  pub marks : List Place
   pub given : List ℕ
   pub input : List ℕ
 
-abbrev pub name_in : Node → List ℕ
-name_in (form.At name line next) = name
-name_in _ = []
+abbrev pub place_in : Node → Place
+place_in (form.At name line next) = record { name = name; line = line }
+place_in _ = empty_place
 
-abbrev pub line_in : Node → ℤ
-line_in (form.At name line next) = line
-line_in _ = pos 0
+abbrev pub place_of : Option Node → Place
+place_of None = empty_place
+place_of (Some n) = place_in n
 
-abbrev pub marked_name : Option Node → List ℕ
-marked_name None = []
-marked_name (Some n) = name_in n
+-- the place that a mark sets
+abbrev pub place_at : List Node → Option ℕ → Place
+place_at nodes None = empty_place
+place_at nodes (Some n) = place_of (slice_get nodes n)
 
-abbrev pub marked_line : Option Node → ℤ
-marked_line None = pos 0
-marked_line (Some n) = line_in n
+abbrev pub places_at : List Node → Option ℕ → List (Option ℕ) → Places
+places_at nodes here behind = record { here = place_at nodes here; behind = map (place_at nodes) behind }
 
 abbrev pub caller_of : Due → Kept → Caller
 caller_of k c = record { ints = λ n. joined (slice_get c.ints n); bufs = λ n. joined (slice_get c.bufs n); todo = (k c.at).todo }
@@ -156,8 +159,8 @@ state_of s f = record {
   heap = f.heap;
   todo = (s.due f.at).todo;
   callers = map (caller_of s.due) f.callers;
-  name = marked_name (slice_get s.nodes f.mark);
-  line = marked_line (slice_get s.nodes f.mark);
+  places = places_at s.nodes f.here f.behind;
+  marks = s.marks;
   read_count = f.read_count;
   input = s.input;
   output = s.given ++ f.output;
@@ -169,11 +172,12 @@ abbrev pub HaveRoom : Due → List Kept → Type 0
 HaveRoom k [] = Unit {0}
 HaveRoom k (c ∷ cs) = ((k c.at).ints ≤ length c.ints) × ((k c.at).bufs ≤ length c.bufs) × HaveRoom k cs
 
--- the lists of variables are long enough, and the cells are counted
-pub record Sound (g : Globals) (k : Due) (f : Flat) : Type 0 where
+-- the lists of variables are long enough, and the cells and the marks are counted
+pub record Sound (g : Globals) (k : Due) (ms : List Place) (f : Flat) : Type 0 where
   pub ints : (k f.at).ints ≤ length f.ints
   pub bufs : (k f.at).bufs ≤ length f.bufs
   pub global_ints : g.ints ≤ length f.global_ints
   pub global_bufs : g.bufs ≤ length f.global_bufs
   pub callers : HaveRoom k f.callers
   pub held : f.held ≡ sum_by cells_of f.heap
+  pub marks : f.marks ≡ min (length ms) most_marks

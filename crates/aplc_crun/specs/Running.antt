@@ -1,28 +1,30 @@
 -- The state of the definition that a machine stands for.
-use Rattle.std.specs.Prelude.{◌≡◌, ℕ, List, [], ◌∷◌, ◌++◌, ℤ, pos, replicate, slice_get, IsTrue}
+use Rattle.std.specs.Prelude.{◌≡◌, ℕ, ◌≤◌, List, [], ◌∷◌, ◌++◌, length, reverse, pos, None, replicate, IsTrue}
 use Rattle.aplc_cprof.specs.declared.syntax.CProgram.{CProgram}
-use Rattle.aplc_cprof.specs.Machine.{State, Next, code_of}
+use Rattle.aplc_cprof.specs.Machine.{Place, Places, State, Next, code_of}
 use Rattle.aplc_cprof.specs.Machine as machine
 use Rattle.aplc_crun.specs.declared.code.Entry.{Entry}
 use Rattle.aplc_crun.specs.declared.code.Laid.{Laid}
 use Rattle.aplc_crun.specs.declared.machine.Machine.{Machine}
-use Rattle.aplc_crun.specs.Laying.{Due, Setting, IsLaid, Sound, code_for, state_of, marked_name, marked_line}
+use Rattle.aplc_crun.specs.Laying.{Due, Setting, IsLaid, Sound, code_for, state_of, places_at}
 use Rattle.aplc_crun.specs.Building.{globals}
 use Rattle.aplc_crun.specs.declared.live.Verdict.{Verdict}
 use Rattle.aplc_crun.specs.declared.live.Verdict.TheVariants as verdict
 use Rattle.aplc_crun.specs.Flat.{Flat, flat_of, layout_of, none_of}
 
-abbrev pub setting : Due → Laid → List ℕ → List ℕ → Setting
-setting k l given input = record { due = k; nodes = l.nodes.items; given = given; input = input }
+abbrev pub setting : Due → Laid → List Place → List ℕ → List ℕ → Setting
+setting k l marks given input = record { due = k; nodes = l.nodes.items; marks = marks; given = given; input = input }
 
 -- The machine of a program stands for a state of the definition: `given` is the output that was handed over,
--- and `more` the input that may still come.
+-- and `more` the input that may still come. The marks are the state's own: the machine has only their number.
 pub record Stands (p : CProgram) (m : Machine) (given more : List ℕ) (st : State) : Type 0 where
   pub due : Due
   pub laid : IsLaid (globals p.ints p.bufs) due (layout_of m.laid)
   pub program : code_of p ≡ code_for due (layout_of m.laid)
-  pub sound : Sound (globals p.ints p.bufs) due (flat_of m.live)
-  pub state : st ≡ state_of (setting due m.laid given (m.ahead.items ++ more)) (flat_of m.live)
+  pub marks : List Place
+  pub few : length marks ≤ m.live.steps
+  pub sound : Sound (globals p.ints p.bufs) due marks (flat_of m.live)
+  pub state : st ≡ state_of (setting due m.laid marks given (m.ahead.items ++ more)) (flat_of m.live)
 
 -- the definition's words for what steps come to
 abbrev pub next_of : Verdict → ℕ → State → Next
@@ -44,8 +46,8 @@ abbrev pub StartsAt : List Entry → Entry → Type 0
 StartsAt [] e = e ≡ record { at = 0; ints = 0; bufs = 0 }
 StartsAt (x ∷ xs) e = e ≡ x
 
-abbrev pub start_flat : Entry → ℕ → ℕ → ℕ → Flat
-start_flat e ints bufs mark = record {
+abbrev pub start_flat : Entry → ℕ → ℕ → Flat
+start_flat e ints bufs = record {
   at = e.at;
   ints = none_of e.ints;
   bufs = none_of e.bufs;
@@ -53,7 +55,9 @@ start_flat e ints bufs mark = record {
   global_bufs = none_of bufs;
   heap = [];
   callers = [];
-  mark = mark;
+  here = None;
+  behind = [];
+  marks = 0;
   read_count = pos 0;
   output = [];
   held = 0;
@@ -75,9 +79,6 @@ steps_taken m = m.live.steps
 abbrev pub CanRun : Machine → Type 0
 CanRun m = IsTrue m.ready
 
--- the place where a machine stands: the name of the function, and the line
-abbrev pub place_name : Machine → List ℕ
-place_name m = marked_name (slice_get m.laid.nodes.items m.live.mark)
-
-abbrev pub place_line : Machine → ℤ
-place_line m = marked_line (slice_get m.laid.nodes.items m.live.mark)
+-- the places where a machine stands
+abbrev pub places_of : Machine → Places
+places_of m = places_at m.laid.nodes.items m.live.places.here (reverse m.live.places.behind.items)

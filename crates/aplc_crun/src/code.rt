@@ -10,7 +10,7 @@ use aplc_scalar::FaultKind;
 #[derive(Drop)]
 pub enum Node {
     /// The end of a function.
-    Leave,
+    End,
     Set(Int, Term, usize),
     SetCell(Buf, Term, Term, usize),
     SetBuf(Buf, Option<Buf>, usize),
@@ -24,6 +24,8 @@ pub enum Node {
     ReadNums(Buf, usize),
     ReadCount(Int, usize),
     At(List<u8>, i64, usize),
+    Enter(usize),
+    Leave(usize),
     Fault(FaultKind),
     Call(u32, usize),
     Return,

@@ -371,6 +371,14 @@ fn lay_stmt(
         CStmt::ReadNums(p) => lay_read_nums(room, code, *p, next),
         CStmt::ReadCount(x) => lay_read_count(room, code, *x, next),
         CStmt::At(name, line) => lay_at(alloc, room, code, name.as_slice(), *line, next),
+        CStmt::Enter => {
+            code.push(Node::Enter(next))?;
+            Ok(())
+        }
+        CStmt::Leave => {
+            code.push(Node::Leave(next))?;
+            Ok(())
+        }
         CStmt::Free(p) => lay_free(room, code, *p, next),
         CStmt::Fault(kind) => {
             code.push(Node::Fault(*kind))?;
@@ -470,7 +478,7 @@ fn lay_functions(
 {
     let mut nodes = Vec::new(alloc);
     let mut entries = Vec::new(alloc);
-    nodes.push(Node::Leave)?;
+    nodes.push(Node::End)?;
     for f in functions {
         let body = f.body.as_slice();
         let at = begin(body, nodes.len(), 0);

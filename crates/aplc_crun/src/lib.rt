@@ -14,6 +14,7 @@ mod lay;
 mod live;
 mod machine;
 mod pending;
+mod places;
 mod print;
 mod quick;
 mod reading;

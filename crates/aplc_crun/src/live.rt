@@ -3,6 +3,7 @@
 
 use crate::heap::Heap;
 use crate::pending::Pending;
+use crate::places::Places;
 use aplc_cprof::StuckCause;
 use aplc_scalar::FaultKind;
 
@@ -34,8 +35,10 @@ pub struct Live {
     pub global_bufs: Vec<Option<usize>>,
     pub heap: Heap,
     pub callers: Vec<Frame>,
-    /// The place of the last mark of the location that was passed, at first a place past the end.
-    pub mark: usize,
+    /// The marks that set the places of the run.
+    pub places: Places,
+    /// How many marks were passed. There are no more of them than steps.
+    pub marks: u64,
     pub read_count: i64,
     pub out: Pending,
     /// The most cells that were held after a step.

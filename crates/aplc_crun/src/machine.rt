@@ -1,12 +1,12 @@
 //! A program and what has become of its run.
 //! It must not know how a statement is carried out.
 
-ghost use Rattle.std.specs.Prelude.{◌≡◌, ◌+◌, ◌<◌, ◌≤◌, ◌^◌, ℕ, List, [], false, IfOk, Err, IsTrue, ◌↔◌, slice_get};
+ghost use Rattle.std.specs.Prelude.{◌≡◌, ◌+◌, ◌<◌, ◌≤◌, ◌^◌, ℕ, List, [], ◌∷◌, false, length, reverse, IfOk, Some, Err, IsTrue, ◌↔◌, option_map, slice_get};
 ghost use Rattle.aplc_cprof.specs.declared.syntax.CProgram.{CProgram};
-ghost use Rattle.aplc_cprof.specs.Machine.{State, code_of, initial, held};
+ghost use Rattle.aplc_cprof.specs.Machine.{State, all_places, code_of, initial, held};
 ghost use Rattle.aplc_crun.specs.Flat.{flat_of};
-ghost use Rattle.aplc_crun.specs.Laying.{marked_name, marked_line};
-ghost use Rattle.aplc_crun.specs.Running.{Stands, StartsAt, start_flat, CanRun, place_name, place_line, cells_held, cells_at_most, steps_taken};
+ghost use Rattle.aplc_crun.specs.Laying.{place_at};
+ghost use Rattle.aplc_crun.specs.Running.{Stands, StartsAt, start_flat, CanRun, places_of, cells_held, cells_at_most, steps_taken};
 ghost use Rattle.aplc_crun.specs.Ran.{Ran};
 
 use crate::code::{Entry, Laid, Node};
@@ -14,6 +14,7 @@ use crate::heap::Heap;
 use crate::lay::lay;
 use crate::live::Live;
 use crate::pending::Pending;
+use crate::places::Places;
 use crate::running::{is_spent, turns};
 use crate::step::{null, unset};
 use crate::stop::RunStop;
@@ -47,14 +48,8 @@ fn first(entries: &[Entry]) -> Entry
     }
 }
 
-fn first_live(
-    alloc: Global,
-    entry: Entry,
-    ints: u32,
-    bufs: u32,
-    mark: usize,
-) -> Result<Live, AllocError>
-    ensures { IfOk result (λ l. flat_of l ≡ start_flat entry ints bufs mark) }
+fn first_live(alloc: Global, entry: Entry, ints: u32, bufs: u32) -> Result<Live, AllocError>
+    ensures { IfOk result (λ l. flat_of l ≡ start_flat entry ints bufs) }
 {
     let global_ints = vec![in alloc; 0; ints as usize]?;
     Ok(Live {
@@ -65,7 +60,8 @@ fn first_live(
         global_bufs: null(alloc, bufs as usize)?,
         heap: Heap::new(alloc),
         callers: Vec::new(alloc),
-        mark,
+        places: Places::new(alloc)?,
+        marks: 0,
         read_count: 0,
         out: Pending::new(alloc)?,
         peak: 0,
@@ -73,26 +69,45 @@ fn first_live(
     })
 }
 
-fn name_at(nodes: &[Node], mark: usize) -> &[u8]
-    ensures { result.now ≡ marked_name (slice_get nodes.now mark) }
+/// The mark that set the place which stands so far behind the innermost one.
+#[tactic(auto, using(crate::proofs::Callers::back_marks))]
+fn mark_at(places: &Places, back: usize) -> Option<usize>
+    requires { back < length (places.now.here ∷ reverse places.now.behind.items) }
+    ensures { slice_get (places.now.here ∷ reverse places.now.behind.items) back ≡ Some result }
 {
-    match nodes.get(mark) {
-        Some(Node::At(name, _, _)) => name.as_slice(),
-        _ => &[],
+    if back == 0 {
+        return places.here;
+    }
+    places.behind[places.behind.len() - back]
+}
+
+fn name_at(nodes: &[Node], mark: Option<usize>) -> &[u8]
+    ensures { result.now ≡ (place_at nodes.now mark).name }
+{
+    match mark {
+        None => &[],
+        Some(n) => match nodes.get(n) {
+            Some(Node::At(name, _, _)) => name.as_slice(),
+            _ => &[],
+        },
     }
 }
 
-fn line_at(nodes: &[Node], mark: usize) -> i64
-    ensures { result ≡ marked_line (slice_get nodes.now mark) }
+fn line_at(nodes: &[Node], mark: Option<usize>) -> i64
+    ensures { result ≡ (place_at nodes.now mark).line }
 {
-    match nodes.get(mark) {
-        Some(Node::At(_, line, _)) => *line,
-        _ => 0,
+    match mark {
+        None => 0,
+        Some(n) => match nodes.get(n) {
+            Some(Node::At(_, line, _)) => *line,
+            _ => 0,
+        },
     }
 }
 
 impl Machine {
-    /// The machine at the start of a program. It takes what the first frame, the statements and the output need.
+    /// The machine at the start of a program. It takes what the first frame, the statements, the places and the output
+    /// need.
     ///
     /// A program in which a function names a variable that is not declared is not well formed, and is refused.
     pub fn start(alloc: Global, program: CProgram) -> Result<Machine, AllocError>
@@ -104,7 +119,7 @@ impl Machine {
         let bufs = program.bufs;
         let laid = lay(alloc, program)?;
         let entry = first(laid.entries.as_slice());
-        let live = first_live(alloc, entry, ints, bufs, laid.nodes.len())?;
+        let live = first_live(alloc, entry, ints, bufs)?;
         Ok(Machine {
             alloc,
             laid,
@@ -155,18 +170,54 @@ impl Machine {
 
     /// The name of the function where the run stands, at first empty.
     pub fn place_name(&self) -> &[u8]
-        ensures told { result.now ≡ place_name self.now }
-        ensures stands { (p : CProgram) (given more : List ℕ) (st : State) → Stands p self.now given more st → result.now ≡ st.name }
+        ensures told { result.now ≡ (places_of self.now).here.name }
+        ensures stands { (p : CProgram) (given more : List ℕ) (st : State) → Stands p self.now given more st → result.now ≡ st.places.here.name }
     {
-        name_at(self.laid.nodes.as_slice(), self.live.mark)
+        name_at(self.laid.nodes.as_slice(), self.live.places.here)
     }
 
     /// The line where the run stands, at first 0.
     pub fn place_line(&self) -> i64
-        ensures told { result ≡ place_line self.now }
-        ensures stands { (p : CProgram) (given more : List ℕ) (st : State) → Stands p self.now given more st → result ≡ st.line }
+        ensures told { result ≡ (places_of self.now).here.line }
+        ensures stands { (p : CProgram) (given more : List ℕ) (st : State) → Stands p self.now given more st → result ≡ st.places.here.line }
     {
-        line_at(self.laid.nodes.as_slice(), self.live.mark)
+        line_at(self.laid.nodes.as_slice(), self.live.places.here)
+    }
+
+    /// How many places there are, from 1 to 4,096.
+    pub fn places(&self) -> usize
+        ensures told { result ≡ length (all_places (places_of self.now)) }
+        ensures stands { (p : CProgram) (given more : List ℕ) (st : State) → Stands p self.now given more st → result ≡ length (all_places st.places) }
+    {
+        1 + self.live.places.behind.len()
+    }
+
+    /// The name of the function at a place, counted from the innermost one, which is 0, outwards.
+    #[tactic(auto, using(crate::proofs::Standing::callers_told))]
+    pub fn caller_name(&self, back: usize) -> &[u8]
+        requires { back < length (all_places (places_of self.now)) }
+        ensures told { option_map (λ p. p.name) (slice_get (all_places (places_of self.now)) back) ≡ Some result.now }
+        ensures stands { (p : CProgram) (given more : List ℕ) (st : State) → Stands p self.now given more st → option_map (λ p. p.name) (slice_get (all_places st.places) back) ≡ Some result.now }
+    {
+        name_at(self.laid.nodes.as_slice(), mark_at(&self.live.places, back))
+    }
+
+    /// The line at a place, counted in the same way.
+    #[tactic(auto, using(crate::proofs::Standing::callers_told))]
+    pub fn caller_line(&self, back: usize) -> i64
+        requires { back < length (all_places (places_of self.now)) }
+        ensures told { option_map (λ p. p.line) (slice_get (all_places (places_of self.now)) back) ≡ Some result }
+        ensures stands { (p : CProgram) (given more : List ℕ) (st : State) → Stands p self.now given more st → option_map (λ p. p.line) (slice_get (all_places st.places) back) ≡ Some result }
+    {
+        line_at(self.laid.nodes.as_slice(), mark_at(&self.live.places, back))
+    }
+
+    /// How many marks were left.
+    pub fn marks(&self) -> u64
+        ensures { (p : CProgram) (given more : List ℕ) (st : State) → Stands p self.now given more st → result ≡ length st.marks }
+    {
+        let _steps = self.live.steps;
+        self.live.marks
     }
 
     /// The cells of the buffers that are not freed.

@@ -60,6 +60,8 @@ pub fn after(at: usize, x: &CStmt) -> Result<usize, AllocError>
         CStmt::ReadNums(_) => next_place(at),
         CStmt::ReadCount(_) => next_place(at),
         CStmt::At(_, _) => next_place(at),
+        CStmt::Enter => next_place(at),
+        CStmt::Leave => next_place(at),
         CStmt::Fault(_) => next_place(at),
         CStmt::Call(_) => next_place(at),
         CStmt::Return => next_place(at),

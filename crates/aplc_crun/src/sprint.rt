@@ -14,7 +14,7 @@ use crate::code::{Laid, Node};
 use crate::eval::named;
 use crate::live::Live;
 use crate::quick::{quick_read, quick_term};
-use crate::step::assign;
+use crate::step::{assign, set_place};
 use crate::term::Term;
 use aplc_cprof::{Buf, Checked, Int};
 
@@ -144,7 +144,7 @@ fn hop_node(laid: &Laid, live: &mut Live, at: usize, node: &Node) -> Option<usiz
         Node::SetCell(p, e, g, next) => set_cell(laid, live, *p, e, g, *next),
         Node::Switch(x, arms, other) => switch(live, *x, arms, *other, laid),
         Node::At(_, _, next) => {
-            live.mark = at;
+            set_place(live, at);
             Some(*next)
         }
         _ => None,

@@ -3,7 +3,7 @@
 
 ghost use Rattle.std.specs.Prelude.{◌≡◌, ◌+◌, ◌<◌, ◌^◌, ℕ, IfOk, OnErr, OnOk, slice_get};
 ghost use Rattle.aplc_crun.specs.declared.code.Node.TheVariants as node;
-ghost use Rattle.aplc_crun.specs.Flat.{flat_of, layout_of, flow_of, with_int, with_buf, go_to, make_cells, free_cells, free_found, write_cell, put_text, put_number, put_character, leave_to, none_of, entered, enter, counted, flat_act, act_at, flat_step, TakesMemory, other_buf, IsCellCount, IsCharacter};
+ghost use Rattle.aplc_crun.specs.Flat.{flat_of, layout_of, flow_of, with_int, with_buf, go_to, make_cells, free_cells, free_found, write_cell, put_text, put_number, put_character, leave_to, none_of, entered, enter, marked, deeper, back_to, counted, flat_act, act_at, flat_step, TakesMemory, other_buf, IsCellCount, IsCharacter};
 ghost use Rattle.aplc_crun.specs.Pausing.{taken, MemoryIsDue};
 
 use crate::arith::checked_value;
@@ -406,6 +406,43 @@ fn switch(live: &mut Live, x: Int, arms: &Choices, other: usize, l: &Laid) -> Ve
     }
 }
 
+/// The innermost place is set by a mark, which is counted.
+#[inline]
+pub fn set_place(live: &mut Live, mark: usize)
+    ensures steps { live.new.steps ≡ live.old.steps }
+    ensures placed { flat_of live.new ≡ marked mark (flat_of live.old) }
+{
+    live.places.here = Some(mark);
+    live.marks = live.marks.saturating_add(1);
+}
+
+fn enter_place(live: &mut Live, next: usize) -> Verdict
+    ensures steps { live.new.steps ≡ live.old.steps }
+    ensures acted { flow_of result (flat_of live.new) ≡ deeper next (flat_of live.old) }
+{
+    if !live.places.has_room() {
+        return Verdict::Stuck(StuckCause::Outside);
+    }
+    live.places.enter();
+    live.at = next;
+    Verdict::Going
+}
+
+#[tactic(auto, using(crate::proofs::Callers::behinds))]
+fn leave_place(live: &mut Live, next: usize) -> Verdict
+    ensures steps { live.new.steps ≡ live.old.steps }
+    ensures acted { flow_of result (flat_of live.new) ≡ back_to (flat_of live.old).behind next (flat_of live.old) }
+{
+    match live.places.behind.pop() {
+        None => Verdict::Stuck(StuckCause::Outside),
+        Some(here) => {
+            live.places.here = here;
+            live.at = next;
+            Verdict::Going
+        }
+    }
+}
+
 /// Does what a statement does. Only `cells` and a call take memory, and refused they change nothing.
 fn act(alloc: Global, laid: &Laid, live: &mut Live, node: &Node) -> Result<Verdict, AllocError>
     ensures steps { live.new.steps ≡ live.old.steps }
@@ -414,7 +451,7 @@ fn act(alloc: Global, laid: &Laid, live: &mut Live, node: &Node) -> Result<Verdi
     ensures hungry { OnErr result (TakesMemory node.now) }
 {
     match node {
-        Node::Leave | Node::Return => Ok(leave(live)),
+        Node::End | Node::Return => Ok(leave(live)),
         Node::Set(x, e, next) => Ok(set(laid, live, *x, e, *next)),
         Node::If(e, met, other) => Ok(branch(laid, live, e, *met, *other)),
         Node::While(e, body, next) => Ok(branch(laid, live, e, *body, *next)),
@@ -440,10 +477,13 @@ fn act(alloc: Global, laid: &Laid, live: &mut Live, node: &Node) -> Result<Verdi
             Ok(put_int(live, *x, v, *next))
         }
         Node::At(_, _, next) => {
-            live.mark = live.at;
+            let mark = live.at;
+            set_place(live, mark);
             live.at = *next;
             Ok(Verdict::Going)
         }
+        Node::Enter(next) => Ok(enter_place(live, *next)),
+        Node::Leave(next) => Ok(leave_place(live, *next)),
         Node::Switch(x, arms, next) => Ok(switch(live, *x, arms, *next, laid)),
     }
 }

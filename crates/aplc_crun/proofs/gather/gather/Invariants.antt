@@ -1,4 +1,4 @@
-use Rattle.std.proofs.Common.{◌≡◌, ◌+◌, ◌-◌, ◌*◌, ◌≤◌, length, take, false, cond, ℕ, Bool}
+use Rattle.std.proofs.Common.{◌≡◌, ◌+◌, ◌-◌, ◌*◌, ◌≤◌, length, take, false, cond}
 use Rattle.aplc_scalar.proofs.InputEnds.{has_line_feed}
 use Rattle.aplc_crun.specs.Gathering.{Gathered}
 use Rattle.aplc_crun.proofs.gather.gather.Given as goal

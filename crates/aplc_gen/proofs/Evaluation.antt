@@ -65,24 +65,24 @@ dyadic_is _ a b h = cc
 pub record Kept (k : ℕ) (s t : machine.State) : Type 0 where
   pub output : t.output ≡ s.output
   pub callers : t.callers ≡ s.callers
-  pub name : t.name ≡ s.name
-  pub line : t.line ≡ s.line
+  pub places : t.places ≡ s.places
+  pub marks : t.marks ≡ s.marks
   pub lower : (j : ℕ) → j < k → read_int (int.Local j) t ≡ read_int (int.Local j) s
 
 kept_todo : (k : ℕ) (s : machine.State) (todo : Todo) → Kept k s (record s { todo = todo })
-kept_todo k s todo = record { output = refl; callers = refl; name = refl; line = refl; lower = λ j lt. refl }
+kept_todo k s todo = record { output = refl; callers = refl; places = refl; marks = refl; lower = λ j lt. refl }
 
 kept_trans : (k : ℕ) (s t u : machine.State) → Kept k s t → Kept k t u → Kept k s u
 kept_trans k s t u p q = record {
   output = q.output ∙ p.output;
   callers = q.callers ∙ p.callers;
-  name = q.name ∙ p.name;
-  line = q.line ∙ p.line;
+  places = q.places ∙ p.places;
+  marks = q.marks ∙ p.marks;
   lower = λ j lt. q.lower j lt ∙ p.lower j lt;
 }
 
 kept_less : (k : ℕ) (s t : machine.State) → Kept (k + 1) s t → Kept k s t
-kept_less k s t p = record { output = p.output; callers = p.callers; name = p.name; line = p.line; lower = λ j lt. p.lower j (omega (arith, lt)) }
+kept_less k s t p = record { output = p.output; callers = p.callers; places = p.places; marks = p.marks; lower = λ j lt. p.lower j (omega (arith, lt)) }
 
 -- the state after a statement that set a variable
 abbrev after_set : ℕ → ℤ → machine.State → Todo → machine.State
@@ -95,7 +95,7 @@ set_lower : (k j : ℕ) (x : ℤ) (s : machine.State) (rest : Todo) → j < k �
 set_lower k j x s rest lt = ap (λ b. or_unset (cond b (Some x) (s.ints j))) (ne_eqb j k (λ (e : j ≡ k). omega (arith, e, lt)))
 
 kept_set : (k : ℕ) (x : ℤ) (s : machine.State) (rest : Todo) → Kept k s (after_set k x s rest)
-kept_set k x s rest = record { output = refl; callers = refl; name = refl; line = refl; lower = λ j lt. set_lower k j x s rest lt }
+kept_set k x s rest = record { output = refl; callers = refl; places = refl; marks = refl; lower = λ j lt. set_lower k j x s rest lt }
 
 -- ---- Values
 

@@ -1,6 +1,6 @@
 -- Code and runs of small programs, computed.
 use Rattle.std.proofs.Common.{◌≡◌, ◌∙◌, ap, ℕ, List, [], ◌∷◌, ◌++◌, refl, decimal, arith}
-use Rattle.std.specs.Prelude.{ℤ, pos, negsuc, codes, Some, None}
+use Rattle.std.specs.Prelude.{ℤ, pos, negsuc, codes, map, Some, None}
 use Rattle.std.proofs.lemmas.Fmt.{decimal_digit, decimal_step}
 use Rattle.aplc_scalar.specs.declared.function.ScalarFn.TheVariants as function
 use Rattle.aplc_scalar.specs.declared.kind.FaultKind.TheVariants as fault
@@ -11,6 +11,7 @@ use Rattle.aplc_cprof.specs.declared.syntax.Checked.TheVariants as checked
 use Rattle.aplc_cprof.specs.declared.syntax.Int.TheVariants as int
 use Rattle.aplc_cprof.specs.declared.syntax.CStmt.TheVariants as stmt
 use Rattle.aplc_cprof.specs.Behaviour.{Ended, Faulted, Going}
+use Rattle.aplc_cprof.specs.Machine as machine
 use Rattle.aplc_syntax.specs.declared.tree.Node.{Node}
 use Rattle.aplc_syntax.specs.declared.tree.Form.TheVariants as v
 use Rattle.aplc_syntax.specs.declared.tree.Primitive.{Primitive}
@@ -21,7 +22,7 @@ use Rattle.aplc_names.specs.Eager.{Place}
 use Rattle.aplc_names.specs.Runs.{eager, main}
 use Rattle.aplc_names.specs.Runs as run
 use Rattle.aplc_gen.specs.Emitted.{lines_code, widest}
-use Rattle.aplc_gen.specs.Shown.{source_behaviour}
+use Rattle.aplc_gen.specs.Shown.{place_shown, source_behaviour}
 use Rattle.aplc_names.proofs.SumForms.{sum_node, sum_Numbers, sum_Dyad}
 
 -- `(2+3)×4`
@@ -52,35 +53,39 @@ widths = refl
 one_variable : widest (display second ∷ nothing ∷ []) ≡ 1
 one_variable = refl
 
+abbrev at : ℕ → Place
+at l = record { function = main; line = l }
+
+-- marks of lines of MAIN
+abbrev marked : List Place → List machine.Place
+marked ps = map place_shown ps
+
 abbrev shown : ℤ → List ℕ
 shown v = number_text v ++ 10 ∷ []
 
-twenty : source_behaviour (display first ∷ []) [] 1 ≡ Ended (codes "20" ++ 10 ∷ [])
+twenty : source_behaviour (display first ∷ []) [] 1 ≡ Ended (codes "20" ++ 10 ∷ []) (marked (at 1 ∷ []))
 unfolding eager in_range
 twenty =
     let d2 : decimal 2 ≡ codes "2" = decimal_digit 2 (omega arith) in
     let d20 : decimal 20 ≡ codes "20" = decimal_step 20 (omega arith) (omega arith) ∙ ap (λ t. t ++ codes "0") d2 in
-    ap (λ t. Ended (t ++ 10 ∷ [])) d20
+    ap (λ t. Ended (t ++ 10 ∷ []) (marked (at 1 ∷ []))) d20
 
 -- from the right: ¯1 less 7; the second line is evaluated and not displayed
-ends : source_behaviour (display first ∷ quiet second ∷ nothing ∷ display second ∷ []) [] 4 ≡ Ended (shown (pos 20) ++ shown (negsuc 7))
+ends : source_behaviour (display first ∷ quiet second ∷ nothing ∷ display second ∷ []) [] 4 ≡ Ended (shown (pos 20) ++ shown (negsuc 7)) (marked (at 1 ∷ at 2 ∷ at 4 ∷ []))
 unfolding eager in_range
 ends = refl
 
 -- with two lines started the third does not start
-goes_on : source_behaviour (display first ∷ nothing ∷ display second ∷ []) [] 2 ≡ Going (shown (pos 20))
+goes_on : source_behaviour (display first ∷ nothing ∷ display second ∷ []) [] 2 ≡ Going (shown (pos 20)) (marked (at 1 ∷ []))
 unfolding eager in_range
 goes_on = refl
 
 -- LIMIT at its line, with what was displayed before
-faults : source_behaviour (display first ∷ nothing ∷ display over ∷ display second ∷ []) [] 9 ≡ Faulted (shown (pos 20)) fault.Limit main (pos 3)
+faults : source_behaviour (display first ∷ nothing ∷ display over ∷ display second ∷ []) [] 9 ≡ Faulted (shown (pos 20)) (marked (at 1 ∷ at 3 ∷ [])) fault.Limit (record { here = place_shown (at 3); behind = [] })
 unfolding eager in_range
 faults = refl
 
 -- ---- The lines started
-
-abbrev at : ℕ → Place
-at l = record { function = main; line = l }
 
 -- an empty line is started too, and leaves no mark
 marks_ended : eager (display first ∷ nothing ∷ quiet second ∷ []) [] 3 ≡ run.Ended (shown (pos 20)) (at 1 ∷ at 3 ∷ [])
@@ -91,8 +96,8 @@ marks_going : eager (display first ∷ nothing ∷ quiet second ∷ []) [] 2 ≡
 unfolding eager in_range
 marks_going = refl
 
--- a fault has the places of the frames, innermost first
-marks_faulted : eager (display first ∷ display over ∷ display second ∷ []) [] 9 ≡ run.Faulted (shown (pos 20)) (at 1 ∷ at 2 ∷ []) fault.Limit (at 2 ∷ [])
+-- a fault has the places of the frames
+marks_faulted : eager (display first ∷ display over ∷ display second ∷ []) [] 9 ≡ run.Faulted (shown (pos 20)) (at 1 ∷ at 2 ∷ []) fault.Limit (record { here = at 2; behind = [] })
 unfolding eager in_range
 marks_faulted = refl
 

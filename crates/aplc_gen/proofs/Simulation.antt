@@ -2,6 +2,7 @@
 use Rattle.std.proofs.Common.{◌≡◌, ℕ, ◌+◌, ◌-◌, ◌≤◌, List, [], ◌∷◌, ◌++◌, inl, inr, refl, sym, ap, ◌∙◌, subst, arith, append_assoc, append-nil, Bool, true, false, cond, ℤ, pos}
 use Rattle.std.specs.Prelude.{Result, Ok, Err, map, length, nat_eq, encode_utf8}
 use Rattle.std.proofs.lemmas.Bool.{ne_eqb}
+use Rattle.std.proofs.lemmas.List.{map-append}
 use Rattle.std.proofs.lemmas.Str.{encode_ascii}
 use Rattle.aplc_scalar.specs.declared.kind.FaultKind.{FaultKind}
 use Rattle.aplc_scalar.specs.Number.{number_text}
@@ -22,10 +23,10 @@ use Rattle.aplc_names.specs.Eager.{Place, Outcome, displayed, statement, started
 use Rattle.aplc_names.specs.Eager as evaluation
 use Rattle.aplc_names.specs.Runs.{Run, run_of, main, eager}
 use Rattle.aplc_names.specs.Runs as runs
-use Rattle.aplc_gen.specs.Shown.{run_shown, source_behaviour}
+use Rattle.aplc_gen.specs.Shown.{place_shown, run_shown, source_behaviour}
 use Rattle.aplc_gen.specs.Emitted.{operand_expr, operand_code, display_code, line_code, lines_code, program_code, is_supported, is_task_supported, are_supported}
 use Rattle.aplc_gen.proofs.Bools.{and_left, and_right}
-use Rattle.aplc_gen.proofs.Evaluation.{Any, Computed, Failed, sum_value, value_is, sum_steps, holds_value, does_less, sum_does}
+use Rattle.aplc_gen.proofs.Evaluation.{Any, Kept, Computed, Failed, sum_value, value_is, sum_steps, holds_value, does_less, sum_does}
 
 -- ---- What a line adds to the output, without its state
 
@@ -72,36 +73,79 @@ statement_is (display e) s = ap (λ r. evaluation.and_then r displayed) (value_i
 
 -- ---- The code of a line
 
+-- the frames, the places and the marks stay
+record Stays (s t : machine.State) : Type 0 where
+  pub callers : t.callers ≡ s.callers
+  pub places : t.places ≡ s.places
+  pub marks : t.marks ≡ s.marks
+
+stays_on : (s t u : machine.State) → Stays s t → Stays t u → Stays s u
+stays_on s t u p q = record { callers = q.callers ∙ p.callers; places = q.places ∙ p.places; marks = q.marks ∙ p.marks }
+
+-- what evaluation keeps
+kept_stays : (k : ℕ) (s t : machine.State) → Kept k s t → Stays s t
+kept_stays k s t kept = record { callers = kept.callers; places = kept.places; marks = kept.marks }
+
 -- a displayed value leaves its line behind the output
 record Displayed (x : ℤ) (s t : machine.State) : Type 0 where
   pub output : t.output ≡ s.output ++ (number_text x ++ 10 ∷ [])
-  pub callers : t.callers ≡ s.callers
+  pub stays : Stays s t
 
 -- a number printed, with no line feed yet
 record Printed (x : ℤ) (s t : machine.State) : Type 0 where
   pub output : t.output ≡ s.output ++ number_text x
-  pub callers : t.callers ≡ s.callers
+  pub stays : Stays s t
 
--- a line is done: its text stands at the end of the output
-pub record LineDone (x : Task) (s t : machine.State) : Type 0 where
+-- a line of MAIN as a place
+abbrev pub at : ℕ → Place
+at l = record { function = main; line = l }
+
+-- the marks that a line of MAIN leaves
+abbrev pub line_marks : ℕ → Task → List machine.Place
+line_marks l x = map place_shown (marks_of x (at l))
+
+-- a line is done: its text stands at the end of the output, and its mark behind the marks
+pub record LineDone (x : Task) (l : ℕ) (s t : machine.State) : Type 0 where
   pub text : List ℕ
   pub given : task_text x ≡ Ok text
   pub output : t.output ≡ s.output ++ text
   pub callers : t.callers ≡ s.callers
+  pub behind : t.places.behind ≡ s.places.behind
+  pub marks : t.marks ≡ s.marks ++ line_marks l x
 
--- a line faults: its task does, the output stays, and the place is known
+-- a line faults: its task does, the output stays, and the places are known
 pub record LineFaults (x : Task) (l : ℕ) (s : machine.State) (k : FaultKind) (t : machine.State) : Type 0 where
   pub given : task_text x ≡ Err k
   pub output : t.output ≡ s.output
-  pub name : t.name ≡ main
-  pub line : t.line ≡ pos l
+  pub places : t.places ≡ record { here = place_shown (at l); behind = s.places.behind }
+  pub marks : t.marks ≡ s.marks ++ line_marks l x
 
 -- the state in which a line's evaluation begins
 record Begun (l : ℕ) (s t : machine.State) : Type 0 where
   pub output : t.output ≡ s.output
   pub callers : t.callers ≡ s.callers
-  pub name : t.name ≡ main
-  pub line : t.line ≡ pos l
+  pub places : t.places ≡ record { here = place_shown (at l); behind = s.places.behind }
+  pub marks : t.marks ≡ s.marks ++ place_shown (at l) ∷ []
+
+-- a line that is begun and done
+line_done : (x : Task) (l : ℕ) (s t u : machine.State) (text : List ℕ) → line_marks l x ≡ place_shown (at l) ∷ [] → task_text x ≡ Ok text → Begun l s t → u.output ≡ t.output ++ text → Stays t u → LineDone x l s u
+line_done x l s t u text one given begun output stays = record {
+  text = text;
+  given = given;
+  output = output ∙ ap (λ o. o ++ text) begun.output;
+  callers = stays.callers ∙ begun.callers;
+  behind = ap (λ (p : machine.Places). p.behind) (stays.places ∙ begun.places);
+  marks = stays.marks ∙ begun.marks ∙ ap (λ (ms : List machine.Place). s.marks ++ ms) (sym one);
+}
+
+-- a line that is begun and faults
+line_faults : (x : Task) (l : ℕ) (s t : machine.State) (k : FaultKind) (u : machine.State) → line_marks l x ≡ place_shown (at l) ∷ [] → task_text x ≡ Err k → Begun l s t → u.output ≡ t.output → Stays t u → LineFaults x l s k u
+line_faults x l s t k u one given begun output stays = record {
+  given = given;
+  output = output ∙ begun.output;
+  places = stays.places ∙ begun.places;
+  marks = stays.marks ∙ begun.marks ∙ ap (λ (ms : List machine.Place). s.marks ++ ms) (sym one);
+}
 
 -- the most steps of a line, and of lines with the end of the run
 abbrev pub line_steps : Task → ℕ
@@ -122,45 +166,43 @@ module _ (c : Code) where
   display_does e x s Fail is =
       does_then c Any 1 1 (stmt.PutNum (operand_expr 0 e) (expr.Lit (pos 0)) ∷ []) (stmt.PutChar (expr.Lit (pos 10)) ∷ []) s (Printed x s) (Displayed x s) Fail
       (does_PutNum c Any (operand_expr 0 e) (expr.Lit (pos 0)) s (Printed x s) Fail x 0 is (value_Lit (pos 0) c.tables s) (omega arith) (λ rest. tt)
-      (λ rest. record { output = ap (λ l. s.output ++ l) (padded_none x); callers = refl }))
+      (λ rest. record { output = ap (λ l. s.output ++ l) (padded_none x); stays = record { callers = refl; places = refl; marks = refl } }))
       (λ t mid. does_PutChar c Any (expr.Lit (pos 10)) t (Displayed x s) Fail 10 (value_Lit (pos 10) c.tables t) refl (λ rest. tt)
-      (λ rest. record { output = ap (λ l. t.output ++ l) line_feed ∙ ap (λ l. l ++ 10 ∷ []) mid.output ∙ append_assoc s.output (number_text x) (10 ∷ []); callers = mid.callers }))
+      (λ rest. record { output = ap (λ l. t.output ++ l) line_feed ∙ ap (λ l. l ++ 10 ∷ []) mid.output ∙ append_assoc s.output (number_text x) (10 ∷ []); stays = record { callers = mid.stays.callers; places = mid.stays.places; marks = mid.stays.marks } }))
 
   -- a line begins, and then its code
   located_does : (k : ℕ) (l : ℕ) (code : List CStmt) (s : machine.State) (Post : machine.State → Type 0) (Fail : FaultKind → machine.State → Type 0) → ((t : machine.State) → Begun l s t → Does c Any k code t Post Fail) → Does c Any (1 + k) (stmt.At main (pos l) ∷ code) s Post Fail
   located_does k l code s Post Fail body =
       does_then c Any 1 k (stmt.At main (pos l) ∷ []) code s (Begun l s) Post Fail
-      (does_At c Any main (pos l) s (Begun l s) Fail (λ rest. tt) (λ rest. record { output = refl; callers = refl; name = refl; line = refl }))
+      (does_At c Any main (pos l) s (Begun l s) Fail (λ rest. tt) (λ rest. record { output = refl; callers = refl; places = refl; marks = refl }))
       body
 
-  quiet_does : (l : ℕ) (e : Sum) (s : machine.State) → is_supported e ≡ true → Does c Any (line_steps (quiet e)) (line_code l (quiet e)) s (LineDone (quiet e) s) (LineFaults (quiet e) l s)
+  quiet_does : (l : ℕ) (e : Sum) (s : machine.State) → is_supported e ≡ true → Does c Any (line_steps (quiet e)) (line_code l (quiet e)) s (LineDone (quiet e) l s) (LineFaults (quiet e) l s)
   quiet_does l e s ok =
-      located_does (sum_steps e) l (operand_code 0 e) s (LineDone (quiet e) s) (LineFaults (quiet e) l s)
-      (λ t begun. does_less c (sum_steps e) (operand_code 0 e) t (Computed 0 e t) (LineDone (quiet e) s) (Failed 0 e t) (LineFaults (quiet e) l s)
-      (λ u p. record { text = []; given = ap silent p.given; output = p.kept.output ∙ begun.output ∙ sym (append-nil s.output); callers = p.kept.callers ∙ begun.callers })
-      (λ f u p. record { given = ap silent p.given; output = p.kept.output ∙ begun.output; name = p.kept.name ∙ begun.name; line = p.kept.line ∙ begun.line })
+      located_does (sum_steps e) l (operand_code 0 e) s (LineDone (quiet e) l s) (LineFaults (quiet e) l s)
+      (λ t begun. does_less c (sum_steps e) (operand_code 0 e) t (Computed 0 e t) (LineDone (quiet e) l s) (Failed 0 e t) (LineFaults (quiet e) l s)
+      (λ u p. line_done (quiet e) l s t u [] refl (ap silent p.given) begun (p.kept.output ∙ sym (append-nil t.output)) (kept_stays 0 t u p.kept))
+      (λ f u p. line_faults (quiet e) l s t f u refl (ap silent p.given) begun p.kept.output (kept_stays 0 t u p.kept))
       (sum_does c 0 e ok t))
 
-  shown_does : (l : ℕ) (e : Sum) (s : machine.State) → is_supported e ≡ true → Does c Any (line_steps (display e)) (line_code l (display e)) s (LineDone (display e) s) (LineFaults (display e) l s)
+  shown_does : (l : ℕ) (e : Sum) (s : machine.State) → is_supported e ≡ true → Does c Any (line_steps (display e)) (line_code l (display e)) s (LineDone (display e) l s) (LineFaults (display e) l s)
   shown_does l e s ok =
-      located_does (sum_steps e + 2) l (operand_code 0 e ++ display_code (operand_expr 0 e)) s (LineDone (display e) s) (LineFaults (display e) l s)
-      (λ t begun. does_then c Any (sum_steps e) 2 (operand_code 0 e) (display_code (operand_expr 0 e)) t (Computed 0 e t) (LineDone (display e) s) (LineFaults (display e) l s)
+      located_does (sum_steps e + 2) l (operand_code 0 e ++ display_code (operand_expr 0 e)) s (LineDone (display e) l s) (LineFaults (display e) l s)
+      (λ t begun. does_then c Any (sum_steps e) 2 (operand_code 0 e) (display_code (operand_expr 0 e)) t (Computed 0 e t) (LineDone (display e) l s) (LineFaults (display e) l s)
       (does_less c (sum_steps e) (operand_code 0 e) t (Computed 0 e t) (Computed 0 e t) (Failed 0 e t) (LineFaults (display e) l s) (λ u p. p)
-      (λ f u p. record { given = ap texted p.given; output = p.kept.output ∙ begun.output; name = p.kept.name ∙ begun.name; line = p.kept.line ∙ begun.line })
+      (λ f u p. line_faults (display e) l s t f u refl (ap texted p.given) begun p.kept.output (kept_stays 0 t u p.kept))
       (sum_does c 0 e ok t))
-      (λ u mid. does_less c 2 (display_code (operand_expr 0 e)) u (Displayed mid.value u) (LineDone (display e) s) (LineFaults (display e) l s) (LineFaults (display e) l s)
-      (λ w p. record {
-        text = number_text mid.value ++ 10 ∷ [];
-        given = ap texted mid.given;
-        output = p.output ∙ ap (λ o. o ++ (number_text mid.value ++ 10 ∷ [])) (mid.kept.output ∙ begun.output);
-        callers = p.callers ∙ mid.kept.callers ∙ begun.callers;
-      })
+      (λ u mid. does_less c 2 (display_code (operand_expr 0 e)) u (Displayed mid.value u) (LineDone (display e) l s) (LineFaults (display e) l s) (LineFaults (display e) l s)
+      (λ w p. line_done (display e) l s t w (number_text mid.value ++ 10 ∷ []) refl (ap texted mid.given) begun
+      (p.output ∙ ap (λ o. o ++ (number_text mid.value ++ 10 ∷ [])) mid.kept.output) (stays_on t u w (kept_stays 0 t u mid.kept) p.stays))
       (λ f w p. p)
       (display_does e mid.value u (LineFaults (display e) l s) (holds_value 0 e mid.value c.tables u ok mid.held))))
 
   -- the code of a line does what its task does, or faults at its place
-  line_does : (l : ℕ) (x : Task) (s : machine.State) → is_task_supported x ≡ true → Does c Any (line_steps x) (line_code l x) s (LineDone x s) (LineFaults x l s)
-  line_does l nothing s ok = does_none c Any s (LineDone nothing s) (LineFaults nothing l s) (λ todo. record { text = []; given = refl; output = sym (append-nil s.output); callers = refl })
+  line_does : (l : ℕ) (x : Task) (s : machine.State) → is_task_supported x ≡ true → Does c Any (line_steps x) (line_code l x) s (LineDone x l s) (LineFaults x l s)
+  line_does l nothing s ok =
+      does_none c Any s (LineDone nothing l s) (LineFaults nothing l s)
+      (λ todo. record { text = []; given = refl; output = sym (append-nil s.output); callers = refl; behind = refl; marks = sym (append-nil s.marks) })
   line_does l (quiet e) s ok = quiet_does l e s ok
   line_does l (display e) s ok = shown_does l e s ok
 
@@ -168,7 +210,7 @@ module _ (c : Code) where
 
 -- a source's state with one frame, that of MAIN
 abbrev pub standing_at : ℕ → List ℕ → List ℕ → List Place → ℕ → evaluation.State
-standing_at j input o marks left = record { places = record { function = main; line = j } ∷ []; input = input; output = o; marks = marks; left = left }
+standing_at j input o marks left = record { places = record { here = at j; behind = [] }; input = input; output = o; marks = marks; left = left }
 
 -- what the source shows of lines, from a state of that kind on
 abbrev pub lines_show : ℕ → List Task → ℕ → List ℕ → List ℕ → List Place → ℕ → Standing
@@ -204,22 +246,26 @@ module _ (c : Code) where
 
   -- the lines from number l on do what they show
   abbrev pub LinesCome : ℕ → List Task → List ℕ → Type 0
-  LinesCome l xs input = (n j left : ℕ) (o : List ℕ) (marks : List Place) (s : machine.State) → s.todo ≡ numbered n (lines_code l xs) → s.callers ≡ [] → s.output ≡ o → Comes (lines_steps xs) s (lines_show l xs j input o marks left)
+  LinesCome l xs input = (n j left : ℕ) (o : List ℕ) (marks : List Place) (s : machine.State) → s.todo ≡ numbered n (lines_code l xs) → s.callers ≡ [] → s.places.behind ≡ [] → s.marks ≡ map place_shown marks → s.output ≡ o → Comes (lines_steps xs) s (lines_show l xs j input o marks left)
 
-  line_led : (l n : ℕ) (x : Task) (rest : Todo) (s : machine.State) → is_task_supported x ≡ true → s.todo ≡ numbered n (line_code l x) ++ rest → Led c Any (line_steps x) s rest (LineDone x s) (LineFaults x l s)
+  line_led : (l n : ℕ) (x : Task) (rest : Todo) (s : machine.State) → is_task_supported x ≡ true → s.todo ≡ numbered n (line_code l x) ++ rest → Led c Any (line_steps x) s rest (LineDone x l s) (LineFaults x l s)
   line_led l n x rest s ok due =
-      subst (λ (todo : Todo). Led c Any (line_steps x) (record s { todo = todo }) rest (LineDone x s) (LineFaults x l s)) (sym due) ((line_does c l x s ok).by n rest)
+      subst (λ (todo : Todo). Led c Any (line_steps x) (record s { todo = todo }) rest (LineDone x l s) (LineFaults x l s)) (sym due) ((line_does c l x s ok).by n rest)
 
   -- a line that may start, and what follows it
-  line_comes : (l : ℕ) (x : Task) (xs : List Task) (input : List ℕ) → is_task_supported x ≡ true → LinesCome (l + 1) xs input → (n j left : ℕ) (o : List ℕ) (marks : List Place) (s : machine.State) → s.todo ≡ numbered n (lines_code l (x ∷ xs)) → s.callers ≡ [] → s.output ≡ o → Comes (lines_steps (x ∷ xs)) s (run_shown (run_of (line_run l x xs (standing_at j input o marks left))))
-  line_comes l x xs input ok ih n j left o marks s due first same =
+  line_comes : (l : ℕ) (x : Task) (xs : List Task) (input : List ℕ) → is_task_supported x ≡ true → LinesCome (l + 1) xs input → (n j left : ℕ) (o : List ℕ) (marks : List Place) (s : machine.State) → s.todo ≡ numbered n (lines_code l (x ∷ xs)) → s.callers ≡ [] → s.places.behind ≡ [] → s.marks ≡ map place_shown marks → s.output ≡ o → Comes (lines_steps (x ∷ xs)) s (run_shown (run_of (line_run l x xs (standing_at j input o marks left))))
+  line_comes l x xs input ok ih n j left o marks s due first alone marked same =
       by_led (line_led l n x (numbered m (lines_code (l + 1) xs)) s ok (due ∙ numbered-append n (line_code l x) (lines_code (l + 1) xs)))
     where
       m : ℕ
       m = n + total (map size (line_code l x))
 
       begun : List Place
-      begun = marks ++ marks_of x (record { function = main; line = l } ∷ [])
+      begun = marks ++ marks_of x (at l)
+
+      -- the marks of the machine are those of the source
+      both : (u : machine.State) → u.marks ≡ s.marks ++ line_marks l x → u.marks ≡ map place_shown begun
+      both u is = is ∙ ap (λ (ms : List machine.Place). ms ++ line_marks l x) marked ∙ sym (map-append place_shown marks (marks_of x (at l)))
 
       t : evaluation.State
       t = standing_at l input o begun (left - 1)
@@ -230,12 +276,12 @@ module _ (c : Code) where
       is : (r : Text) → task_text x ≡ r → run_shown (run_of (line_then l xs r t)) ≡ whole
       is r h = sym (ap (λ y. run_shown (run_of y)) (line_then_is l x xs t r h))
 
-      by_led : Led c Any (line_steps x) s (numbered m (lines_code (l + 1) xs)) (LineDone x s) (LineFaults x l s) → Comes (lines_steps (x ∷ xs)) s whole
+      by_led : Led c Any (line_steps x) s (numbered m (lines_code (l + 1) xs)) (LineDone x l s) (LineFaults x l s) → Comes (lines_steps (x ∷ xs)) s whole
       by_led (inl a) =
           let text = a.post.text in
           subst (λ (r : Standing). Comes (lines_steps (x ∷ xs)) s r) (is (Ok text) a.post.given)
           (comes_after a.steps (lines_steps xs) (lines_steps (x ∷ xs)) s a.to (lines_show (l + 1) xs l input (o ++ text) begun (left - 1)) a.path (omega (arith, a.within))
-          (ih m l (left - 1) (o ++ text) begun a.to a.due (a.post.callers ∙ first) (a.post.output ∙ ap (λ l. l ++ text) same)))
+          (ih m l (left - 1) (o ++ text) begun a.to a.due (a.post.callers ∙ first) (a.post.behind ∙ alone) (both a.to a.post.marks) (a.post.output ∙ ap (λ l. l ++ text) same)))
       by_led (inr f) =
           let k = f.kind in
           record {
@@ -243,21 +289,26 @@ module _ (c : Code) where
             within = omega (arith, f.within, some_steps xs);
             same =
                 ap shown (run-path c Any f.steps s f.at f.path 1 ∙ ap (λ y. machine.and_then y (run c 0)) f.faults)
-                ∙ ap (λ o. standing.Faulted o k f.at.name f.at.line) (f.fail.output ∙ same)
-                ∙ ap (λ name. standing.Faulted o k name f.at.line) f.fail.name
-                ∙ ap (λ line. standing.Faulted o k main line) f.fail.line
+                ∙ ap (λ o. standing.Faulted o f.at.marks k f.at.places) (f.fail.output ∙ same)
+                ∙ ap (λ (ms : List machine.Place). standing.Faulted o ms k f.at.places) (both f.at f.fail.marks)
+                ∙ ap (λ (ps : machine.Places). standing.Faulted o (map place_shown begun) k ps) f.fail.places
+                ∙ ap (λ (qs : List machine.Place). standing.Faulted o (map place_shown begun) k (record { here = place_shown (at l); behind = qs })) alone
                 ∙ is (Err k) f.fail.given;
           }
 
   -- the code of lines comes to what they show, in as many steps as it has statements, and one for the end
   pub lines_come : (l : ℕ) (xs : List Task) (input : List ℕ) → are_supported xs ≡ true → LinesCome l xs input
-  lines_come l [] input ok n j left o marks s due first same =
-      record { steps = 1; within = omega arith; same = ap (λ x. shown (machine.and_then x (run c 0))) (step_end c s due first) ∙ ap standing.Ended same }
-  lines_come l (x ∷ xs) input ok n j left o marks s due first same =
-      by_left (nat_eq left 0) (line_comes l x xs input (and_left (is_task_supported x) (are_supported xs) ok) (lines_come (l + 1) xs input (and_right (is_task_supported x) (are_supported xs) ok)) n j left o marks s due first same)
+  lines_come l [] input ok n j left o marks s due first alone marked same =
+      record {
+        steps = 1;
+        within = omega arith;
+        same = ap (λ x. shown (machine.and_then x (run c 0))) (step_end c s due first) ∙ ap (λ o. standing.Ended o s.marks) same ∙ ap (standing.Ended o) marked;
+      }
+  lines_come l (x ∷ xs) input ok n j left o marks s due first alone marked same =
+      by_left (nat_eq left 0) (line_comes l x xs input (and_left (is_task_supported x) (are_supported xs) ok) (lines_come (l + 1) xs input (and_right (is_task_supported x) (are_supported xs) ok)) n j left o marks s due first alone marked same)
     where
       by_left : (b : Bool) → Comes (lines_steps (x ∷ xs)) s (run_shown (run_of (line_run l x xs (standing_at j input o marks left)))) → Comes (lines_steps (x ∷ xs)) s (run_shown (run_of (cond b (evaluation.Going (standing_at j input o marks left)) (line_run l x xs (standing_at j input o marks left)))))
-      by_left true goes = record { steps = 0; within = omega arith; same = ap standing.Going same }
+      by_left true goes = record { steps = 0; within = omega arith; same = ap (λ o. standing.Going o s.marks) same ∙ ap (standing.Going o) marked }
       by_left false goes = goes
 
 -- ---- The source
@@ -265,8 +316,7 @@ module _ (c : Code) where
 -- a source is never stuck
 source_fine : (r : Run) → IsStuck (run_shown r) → ⊥
 source_fine (runs.Ended o marks) h = h
-source_fine (runs.Faulted o marks k []) h = h
-source_fine (runs.Faulted o marks k (p ∷ ps)) h = h
+source_fine (runs.Faulted o marks k places) h = h
 source_fine (runs.Going o marks) h = h
 
 text_over : (l : ℕ) (xs : List Task) (r : Text) (j left : ℕ) (input o : List ℕ) (marks : List Place) → ((o : List ℕ) → IsGoing (lines_show (l + 1) xs j input o marks left) → ⊥) → IsGoing (run_shown (run_of (line_then l xs r (standing_at j input o marks left)))) → ⊥
@@ -275,7 +325,7 @@ text_over l xs (Err k) j left input o marks ih g = g
 
 line_over : (l : ℕ) (x : Task) (xs : List Task) (j left : ℕ) (input o : List ℕ) (marks : List Place) → ((o : List ℕ) (marks : List Place) → IsGoing (lines_show (l + 1) xs l input o marks (left - 1)) → ⊥) → IsGoing (run_shown (run_of (line_run l x xs (standing_at j input o marks left)))) → ⊥
 line_over l x xs j left input o marks ih g =
-    let begun = marks ++ marks_of x (record { function = main; line = l } ∷ []) in
+    let begun = marks ++ marks_of x (at l) in
     text_over l xs (task_text x) l (left - 1) input o begun (λ o. ih o begun)
     (subst (λ (y : Outcome (Unit {0})). IsGoing (run_shown (run_of y))) (line_then_is l x xs (standing_at l input o begun (left - 1)) (task_text x) refl) g)
 
@@ -298,7 +348,7 @@ program_comes : (lines : List Task) → are_supported lines ≡ true → (input 
 unfolding eager
 program_comes lines ok input n =
     let c = code_of (program_code lines) in
-    lines_come c 1 lines input ok 1 0 n [] [] (machine.initial c input) refl refl refl
+    lines_come c 1 lines input ok 1 0 n [] [] (machine.initial c input) refl refl refl refl refl
 
 program_follows : (lines : List Task) → are_supported lines ≡ true → (input : List ℕ) (n : ℕ) → Follows (source_behaviour lines input) (behaviour (program_code lines) input) n
 unfolding behaviour

@@ -10,10 +10,14 @@ pub record Place : Type 0 where
   pub function : List ℕ
   pub line : ℕ
 
--- The places have one entry for each frame, innermost first; the marks are the lines started that have a
--- statement, in order; `left` is how many lines may still start.
+-- one place for each frame: the innermost one, and those behind it from the inside out
+pub record Places : Type 0 where
+  pub here : Place
+  pub behind : List Place
+
+-- The marks are the lines started that have a statement, in order; `left` is how many lines may still start.
 pub record State : Type 0 where
-  pub places : List Place
+  pub places : Places
   pub input : List ℕ
   pub output : List ℕ
   pub marks : List Place
@@ -48,22 +52,18 @@ statement nothing s = Gives tt s
 statement (quiet e) s = and_then (value e s) (λ v t. Gives tt t)
 statement (display e) s = and_then (value e s) displayed
 
-abbrev pub at_line : ℕ → List Place → List Place
-at_line l [] = []
-at_line l (p ∷ ps) = record p { line = l } ∷ ps
-
-abbrev pub innermost : List Place → List Place
-innermost [] = []
-innermost (p ∷ ps) = p ∷ []
+-- the innermost frame stands at another line
+abbrev pub at_line : ℕ → Places → Places
+at_line l places = record { here = record { function = places.here.function; line = l }; behind = places.behind }
 
 -- an empty statement leaves no mark
-abbrev pub marks_of : Task → List Place → List Place
-marks_of nothing places = []
-marks_of t places = innermost places
+abbrev pub marks_of : Task → Place → List Place
+marks_of nothing here = []
+marks_of t here = here ∷ []
 
 -- a line is started: the frame stands there, and a statement leaves a mark
 abbrev pub started : ℕ → Task → State → State
-started l x s = record s { places = at_line l s.places; marks = s.marks ++ marks_of x (at_line l s.places); left = s.left - 1 }
+started l x s = record s { places = at_line l s.places; marks = s.marks ++ marks_of x (at_line l s.places).here; left = s.left - 1 }
 
 -- the lines from number l on
 abbrev pub lines_from : ℕ → List Task → State → Outcome (Unit {0})

@@ -1,14 +1,14 @@
 -- The run of MAIN with so many lines started.
-use Rattle.std.specs.Prelude.{ℕ, List, [], ◌∷◌, codes}
+use Rattle.std.specs.Prelude.{ℕ, List, [], codes}
 use Rattle.aplc_scalar.specs.declared.kind.FaultKind.{FaultKind}
 use Rattle.aplc_names.specs.Sums.{Task}
-use Rattle.aplc_names.specs.Eager.{Place, State, Outcome, lines_from}
+use Rattle.aplc_names.specs.Eager.{Place, Places, State, Outcome, lines_from}
 use Rattle.aplc_names.specs.Eager as outcome
 
 -- What a run with so many lines started comes to.
 pub data Run : Type 0 where
   Ended : List ℕ → List Place → Run
-  Faulted : List ℕ → List Place → FaultKind → List Place → Run
+  Faulted : List ℕ → List Place → FaultKind → Places → Run
   Going : List ℕ → List Place → Run
 
 abbrev pub run_of : Outcome (Unit {0}) → Run
@@ -21,7 +21,7 @@ main = codes "MAIN"
 
 -- at first one frame stands, that of MAIN, before its first line
 abbrev pub initial : List ℕ → ℕ → State
-initial input n = record { places = record { function = main; line = 0 } ∷ []; input = input; output = []; marks = []; left = n }
+initial input n = record { places = record { here = record { function = main; line = 0 }; behind = [] }; input = input; output = []; marks = []; left = n }
 
 -- MAIN on an input, with at most n lines started, those without a statement included
 unfoldable pub eager : List Task → List ℕ → ℕ → Run

@@ -1,5 +1,5 @@
 -- What the whole of a call says of each status.
-use Rattle.std.proofs.Common.{◌≡◌, ◌⊎◌, ◌≤◌, arith, ℕ, List, [], Option, None, Some, Result, Ok, Err, refl, sym, ap, subst, ◌∙◌, inl, inr, ⊎_elim}
+use Rattle.std.proofs.Common.{◌≡◌, ◌⊎◌, ◌≤◌, arith, ℕ, List, [], Option, None, Some, Result, Ok, Err, IfOk, refl, sym, ap, subst, ◌∙◌, inl, inr, ⊎_elim}
 use Rattle.aplc_io.specs.Outside.{SinkState, HostState, Rose, IsMissing, sink_with}
 use Rattle.aplc_io.specs.Parts.{PartWritten, Tried}
 use Rattle.aplc_io.proofs.Sent.{sink_with-nil}
@@ -18,7 +18,7 @@ use Rattle.aplc_cli.specs.Compiled.{IsProgramOf, Judged}
 use Rattle.aplc_cli.specs.Came.{Came, came_of, line, status_of, refusal_line}
 use Rattle.aplc_cli.specs.Came as came
 use Rattle.aplc_cli.specs.Carrying.{Streams, Shown}
-use Rattle.aplc_cli.specs.Call.{Sent, sent_for, steps_for, shown_for, came_for, outcome_for, outcome_of, Outside, streams, host_after, Matter, IsShown, Meets, Works, Reports, Ends, IsMissingFile, HasReadCause, HasWriteCause, IsUsage, IsRefused, IsAccepted, IsCompiledOnly, IsRun, IsOfRun, KeepsCounts, IsAnswer, CarriesOut, Executes}
+use Rattle.aplc_cli.specs.Call.{Sent, sent_for, steps_for, shown_for, came_for, outcome_for, outcome_of, Outside, streams, host_after, Matter, IsShown, Meets, Works, Reports, Ends, IsMissingFile, HasReadCause, HasWriteCause, IsUsage, IsRefused, IsAccepted, IsCompiledOnly, IsRun, IsOfRun, KeepsCounts, IsAnswer, CarriesOut, Executes, AtMostOnce, KeepsText, Answers}
 
 -- ---- Which results have a status
 
@@ -148,7 +148,7 @@ module _ (c : Option Command) (old new : Outside) (e e2 : SinkState) (s : Status
   read_from (inl w) = ⊎_elim (λ rose. inl rose) (λ none. inr (inl (missing w.command w.is_command none))) w.fails.cause
   read_from (inr w) = inr (inr (later_rose old.input.faults w.stopped.left.faults new.input.faults (sym w.stopped.read.gives.faults) w.stopped.fails.rose, w))
 
-  pub read_cause : Ends c old new e e2 s → s ≡ status.ReadFault → HasReadCause c old new
+  read_cause : Ends c old new e e2 s → s ≡ status.ReadFault → HasReadCause c old new
   read_cause ends is =
       let w = whole e e2 s (λ t. t ≡ status.ReadFault) ends.result ends.report is (λ f. cc) in
       read_from (subst (Works c old new) (is_read ends.result (sym w.0 ∙ is)) ends.work)
@@ -157,7 +157,7 @@ module _ (c : Option Command) (old new : Outside) (e e2 : SinkState) (s : Status
   write_from (inl w) = inl (⊎_elim (λ n. n.rose) (λ n. n.rose) w.part)
   write_from (inr w) = inr (inl w.stopped.part.rose)
 
-  pub write_cause : Ends c old new e e2 s → s ≡ status.WriteFault → HasWriteCause old new e e2
+  write_cause : Ends c old new e e2 s → s ≡ status.WriteFault → HasWriteCause old new e e2
   write_cause ends is =
       ⊎_elim (λ w. write_from (subst (Works c old new) (is_write ends.result (sym w.0 ∙ is)) ends.work))
       (λ f. ⊎_elim (λ r. write_from (subst (Works c old new) r ends.work)) (λ rose. inr (inr rose)) f)
@@ -178,7 +178,7 @@ module _ (c : Option Command) (old new : Outside) (e e2 : SinkState) (s : Status
   usage_as None m k is host shown l = record { command = sym k; line = l; rest = same_world host shown }
   usage_as (Some cmd) m k is host shown l = absurd (not_usage m.verdict cmd.action m.text m.program m.input is)
 
-  pub usage_is : Ends c old new e e2 s → s ≡ status.Usage → IsUsage c old new e e2
+  usage_is : Ends c old new e e2 s → s ≡ status.Usage → IsUsage c old new e e2
   usage_is ends is =
       let w = whole e e2 s (λ t. t ≡ status.Usage) ends.result ends.report is (λ f. cc) in
       let r = is_usage ends.result (sym w.0 ∙ is) in
@@ -208,7 +208,7 @@ module _ (c : Option Command) (old new : Outside) (e e2 : SinkState) (s : Status
             (subst (λ q. IsShown (outcome_of q cmd.action m.text m.program m.input).shown (streams old) (streams new)) reason shown);
       }
 
-  pub refused_is : Ends c old new e e2 s → s ≡ status.Refused → IsRefused c old new e e2
+  refused_is : Ends c old new e e2 s → s ≡ status.Refused → IsRefused c old new e e2
   refused_is ends is =
       let w = whole e e2 s (λ t. t ≡ status.Refused) ends.result ends.report is (λ f. cc) in
       let r = is_refused ends.result (sym w.0 ∙ is) in
@@ -295,7 +295,7 @@ module _ (c : Option Command) (old new : Outside) (e e2 : SinkState) (s : Status
   done_by x is (inl f) = inl f.0
   done_by x is (inr f) = inr (subst (IsRun c old new e e2) (sym is) f)
 
-  pub done_is : Ends c old new e e2 s → s ≡ status.Done → IsCompiledOnly c old new e e2 ⊎ IsRun c old new e e2 s
+  done_is : Ends c old new e e2 s → s ≡ status.Done → IsCompiledOnly c old new e e2 ⊎ IsRun c old new e e2 s
   done_is ends is = let f = came_to ends (subst IsOfText (sym is) tt) in done_by f.0 f.1 f.2
 
   of_run : (t : Status) → IsOfRun t → IsOfText t
@@ -313,7 +313,7 @@ module _ (c : Option Command) (old new : Outside) (e e2 : SinkState) (s : Status
   ran_by x is h (inl f) = absurd (subst IsOfRun (is ∙ ap (λ y. status_of (Ok y)) f.1) h)
   ran_by x is h (inr f) = subst (IsRun c old new e e2) (sym is) f
 
-  pub ran_is : Ends c old new e e2 s → IsOfRun s → IsRun c old new e e2 s
+  ran_is : Ends c old new e e2 s → IsOfRun s → IsRun c old new e e2 s
   ran_is ends h = let f = came_to ends (of_run s h) in ran_by f.0 f.1 h f.2
 
   -- ---- What was compiled is never stuck
@@ -323,7 +323,7 @@ module _ (c : Option Command) (old new : Outside) (e e2 : SinkState) (s : Status
   stuck_by (action.Run m) file text p most input steps program is = absurd ((program.behaves.alike input).never_stuck most is)
   stuck_by (action.Exec m) file text p most input steps program is = (m, refl)
 
-  pub stuck_is : Ends c old new e e2 s → s ≡ status.Stuck → Executes c
+  stuck_is : Ends c old new e e2 s → s ≡ status.Stuck → Executes c
   stuck_is ends is =
       let f = ran_is ends (subst IsOfRun (sym is) tt) in
       let k = stuck_by f.command.action f.accepted.file f.accepted.text f.accepted.program f.most f.input f.run f.accepted.is_program (stuck_status (behaviour f.accepted.program f.input f.most) (sym f.status ∙ is)) in
@@ -364,7 +364,7 @@ module _ (c : Option Command) (old new : Outside) (e e2 : SinkState) (s : Status
   counts_from (Err stop.WriteFault) w t a = absurd (subst IsAnswer t.0 a)
   counts_from (Err stop.Memory) w t a = absurd (subst IsAnswer t.0 a)
 
-  pub counts_kept : Ends c old new e e2 s → IsAnswer s → KeepsCounts old new e e2
+  counts_kept : Ends c old new e e2 s → IsAnswer s → KeepsCounts old new e e2
   counts_kept ends a = counts_from ends.result ends.work (whole e e2 s IsAnswer ends.result ends.report a (λ f. f)) a
 
   -- ---- What no command without a run touches
@@ -405,16 +405,19 @@ module _ (c : Option Command) (old new : Outside) (e e2 : SinkState) (s : Status
   quiet_from (Err stop.Memory) (inl w) never = world_same old w refl
   quiet_from (Err stop.Memory) (inr w) never = no_run w.command w.most w.is_command w.is_run never
 
-  pub untouched : Ends c old new e e2 s → (CarriesOut c → ⊥) → Untouched
+  untouched : Ends c old new e e2 s → (CarriesOut c → ⊥) → Untouched
   untouched ends never = quiet_from ends.result ends.work never
 
   -- ---- What `--exec` never touches
 
   abbrev NoText : Type 0
-  NoText = (new.host.text ≡ old.host.text) × (new.host.target ≡ old.host.target)
+  NoText = KeepsText old.host new.host
 
-  host_same : (h : HostState) → new.host ≡ h → h.text ≡ old.host.text → h.target ≡ old.host.target → NoText
-  host_same h is text target = (ap (λ (x : HostState). x.text) is ∙ text, ap (λ (x : HostState). x.target) is ∙ target)
+  host_same : (h : HostState) → new.host ≡ h → KeepsText old.host h → NoText
+  host_same h is kept = subst (KeepsText old.host) (sym is) kept
+
+  same_text : KeepsText old.host old.host
+  same_text = record { text = refl; target = refl; begun = refl; put = refl }
 
   none_sent : (a : Action) (text : List ℕ) → ((m : ℕ) × (a ≡ action.Exec m)) → sent_for a text ≡ None
   none_sent a text is = ap (λ x. sent_for x text) is.1
@@ -428,7 +431,7 @@ module _ (c : Option Command) (old new : Outside) (e e2 : SinkState) (s : Status
   unsent_as (Some cmd) m is = nothing_sent m.verdict cmd.action m.text m.program m.input is
 
   of_none : (t : Option Sent) → new.host ≡ host_after t old.host → t ≡ None → NoText
-  of_none t is none = host_same old.host (is ∙ ap (λ x. host_after x old.host) none) refl refl
+  of_none t is none = host_same old.host (is ∙ ap (λ x. host_after x old.host) none) same_text
 
   of_fault : (cmd : Command) (text : List ℕ) → c ≡ Some cmd → new.host ≡ host_after (sent_for cmd.action text) old.host → Executes c → NoText
   of_fault cmd text is host h = of_none (sent_for cmd.action text) host (none_sent cmd.action text (subst Executes is h))
@@ -440,16 +443,65 @@ module _ (c : Option Command) (old new : Outside) (e e2 : SinkState) (s : Status
   text_from (Ok x) w h = of_none _ w.host (unsent_as c w.matter h)
   text_from (Err stop.Usage) w h = of_none _ w.host (unsent_as c w.matter h)
   text_from (Err (stop.Refused r)) w h = of_none _ w.host (unsent_as c w.matter h)
-  text_from (Err stop.ReadFault) (inl w) h = host_same (record old.host { fetch_faults = new.host.fetch_faults }) w.fails.same refl refl
+  text_from (Err stop.ReadFault) (inl w) h = host_same (record old.host { fetch_faults = new.host.fetch_faults }) w.fails.same (record { text = refl; target = refl; begun = refl; put = refl })
   text_from (Err stop.ReadFault) (inr w) h = of_fault w.command w.matter.text w.is_command w.host h
   text_from (Err stop.WriteFault) (inl w) h = absurd (is_sent _ w.sent w.is_sent (unsent_as c w.matter h))
   text_from (Err stop.WriteFault) (inr w) h = of_fault w.command w.matter.text w.is_command w.host h
-  text_from (Err stop.Memory) (inl w) h = host_same old.host (ap (λ (x : Outside). x.host) w) refl refl
+  text_from (Err stop.Memory) (inl w) h = host_same old.host (ap (λ (x : Outside). x.host) w) same_text
   text_from (Err stop.Memory) (inr w) h = of_fault w.command w.matter.text w.is_command w.host h
 
-  pub no_text : Ends c old new e e2 s → Executes c → NoText
+  no_text : Ends c old new e e2 s → Executes c → NoText
   no_text ends h = text_from ends.result ends.work h
+
+  -- ---- A text is begun once at most
+
+  abbrev BegunOnce : HostState → Type 0
+  BegunOnce h = AtMostOnce old.host.begun h.begun
+
+  begun_as : (h : HostState) → new.host ≡ h → BegunOnce h → BegunOnce new.host
+  begun_as h is once = subst BegunOnce (sym is) once
+
+  begun_after : (t : Option Sent) → new.host ≡ host_after t old.host → BegunOnce new.host
+  begun_after None is = begun_as old.host is (inl refl)
+  begun_after (Some s) is = begun_as (host_after (Some s) old.host) is (inr refl)
+
+  begun_from : (r : Result Came Stop) → Works c old new r → BegunOnce new.host
+  begun_from (Ok x) w = begun_after _ w.host
+  begun_from (Err stop.Usage) w = begun_after _ w.host
+  begun_from (Err (stop.Refused r)) w = begun_after _ w.host
+  begun_from (Err stop.ReadFault) (inl w) = begun_as (record old.host { fetch_faults = new.host.fetch_faults }) w.fails.same (inl refl)
+  begun_from (Err stop.ReadFault) (inr w) = begun_after _ w.host
+  begun_from (Err stop.WriteFault) (inl w) = ⊎_elim (λ n. begun_as _ n.same (inr refl)) (λ n. begun_as _ n.same (inr refl)) w.part
+  begun_from (Err stop.WriteFault) (inr w) = begun_after _ w.host
+  begun_from (Err stop.Memory) (inl w) = begun_as old.host (ap (λ (x : Outside). x.host) w) (inl refl)
+  begun_from (Err stop.Memory) (inr w) = begun_after _ w.host
+
+  -- ---- All of it
+
+  pub answers : Ends c old new e e2 s → Answers c old new e e2 s
+  answers ends = record {
+    ends = ends;
+    done = done_is ends;
+    ran = ran_is ends;
+    stuck = stuck_is ends;
+    refused = refused_is ends;
+    usage = usage_is ends;
+    read_fault = read_cause ends;
+    write_fault = write_cause ends;
+    counts = counts_kept ends;
+    untouched = untouched ends;
+    no_text = no_text ends;
+    begun = begun_from ends.result ends.work;
+  }
 
   -- the two halves of a call, whose words may be spelled in another way
   pub ends_by : (k : Option Command) (r : Result Came Stop) → k ≡ c → Works k old new r → Reports r e e2 s → Ends c old new e e2 s
   ends_by k r is w t = record { result = r; work = subst (λ k. Works k old new r) is w; report = t }
+
+-- memory was wanting before any work was done
+pub wanted : (c : Option Command) (w : Outside) (e e2 : SinkState) (s : Status) (x : Stop) → x ≡ stop.Memory → Reports (Err x) e e2 s → Answers c w w e e2 s
+wanted c w e e2 s x is t = answers c w w e e2 s (record { result = Err stop.Memory; work = inl refl; report = subst (λ (y : Stop). Reports (Err y) e e2 s) is t })
+
+pub if_given : {A E : Type 0} (P Q : A → Type 0) (r : Result A E) → IfOk r P → ((x : A) → P x → Q x) → IfOk r Q
+if_given P Q (Ok x) h f = f x h
+if_given P Q (Err e) h f = tt

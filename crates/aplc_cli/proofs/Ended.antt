@@ -1,6 +1,6 @@
 -- How the steps of a call make the whole.
-use Rattle.std.proofs.Common.{◌≡◌, ℕ, zero, suc, ◌<◌, ◌≤◌, Bool, false, List, [], ◌∷◌, take, length, Option, None, Some, Result, Ok, Err, IfSome, refl, sym, ap, subst, ◌∙◌, inl, inr, arith}
-use Rattle.aplc_io.specs.Outside.{SourceState, SinkState, HostState, Target, target_of, set_to, with, text_begun, text_with, TextNotBegun, IsFile, IsLongFile, FetchFails, sink_with}
+use Rattle.std.proofs.Common.{◌≡◌, ℕ, zero, suc, ◌<◌, ◌≤◌, Bool, false, List, [], ◌∷◌, take, length, Option, None, Some, Result, Ok, Err, IfSome, refl, sym, ap, subst, ◌∙◌, inl, inr, arith, length-take-le}
+use Rattle.aplc_io.specs.Outside.{more, SourceState, SinkState, HostState, Target, target_of, set_to, with, text_begun, text_with, TextNotBegun, IsFile, IsLongFile, FetchFails, sink_with}
 use Rattle.aplc_io.specs.Parts.{PartOfText}
 use Rattle.aplc_cprof.specs.declared.syntax.CProgram.{CProgram}
 use Rattle.aplc_cprof.specs.Behaviour.{behaviour}
@@ -12,8 +12,8 @@ use Rattle.aplc_cli.specs.declared.status.Stop.{Stop}
 use Rattle.aplc_cli.specs.declared.status.Stop.TheVariants as stop
 use Rattle.aplc_cli.specs.declared.words.Action.{Action}
 use Rattle.aplc_cli.specs.declared.words.Action.TheVariants as action
-use Rattle.aplc_cli.specs.Sources.{IsRefusedSource, too_long}
-use Rattle.aplc_cli.specs.Compiled.{HasReason, IsProgramOf, text_refusal}
+use Rattle.aplc_cli.specs.Sources.{IsRefusedSource, too_long, source_limit}
+use Rattle.aplc_cli.specs.Compiled.{HasReason, IsProgramOf, text_refusal, text_limit, too_long_text}
 use Rattle.aplc_cli.specs.Words.{Command}
 use Rattle.aplc_cli.specs.Came.{Came, Compiled, result_map}
 use Rattle.aplc_cli.specs.Carrying.{Streams, IsInput, InputFailed, MemoryWanted, OutputFailed, Carried}
@@ -77,7 +77,7 @@ long_file h name limit is_long = long h.files is_long
 -- ---- The text, sent
 
 pub begun_sent : (h h2 h3 : HostState) (text : List ℕ) (run : Bool) → h2 ≡ text_begun h None run → h3 ≡ text_with h2 text → h3 ≡ host_after (Some record { target = target_of None run; bytes = text }) h
-begun_sent h h2 h3 text run e f = f ∙ ap (λ (x : HostState). text_with x text) e ∙ ap (λ (t : Option (List ℕ)). record (text_begun h None run) { text = t }) (set_with h.text)
+begun_sent h h2 h3 text run e f = f ∙ ap (λ (x : HostState). text_with x text) e ∙ ap (λ (t : Option (List ℕ)). record (text_begun h None run) { text = t; put = more h.put (length text) }) (set_with h.text)
   where
     set_with : (t : Option (List ℕ)) → with (set_to t []) text ≡ set_to t text
     set_with None = refl
@@ -87,6 +87,7 @@ pub begun_cut : (h h2 h3 : HostState) (text : List ℕ) (run : Bool) → h2 ≡ 
 begun_cut h h2 h3 text run e p =
     let sent : Sent = record { target = target_of None run; bytes = text } in
     let faults : h2.text_faults ≡ h.text_faults = ap (λ (x : HostState). x.text_faults) e in
+    let taken : length (take p.count text) ≡ p.count = length-take-le p.count text (let s = p.short in omega arith) in
     let front : HostState = host_after (Some (record sent { bytes = take p.count text })) h in
     let whole : text_with h2 (take p.count text) ≡ front = begun_sent h h2 (text_with h2 (take p.count text)) (take p.count text) run e refl in
     inr record {
@@ -94,19 +95,23 @@ begun_cut h h2 h3 text run e p =
       short = p.short;
       rose = subst (λ n. Rattle.aplc_io.specs.Outside.Rose n h3.text_faults) faults p.rose;
       later = subst (λ n. n ≤ h3.text_faults) faults p.later;
-      same = p.same ∙ ap (λ (t : Option (List ℕ)). record h2 { text = t; text_faults = h3.text_faults }) p.text ∙ ap {A = HostState} (λ (x : HostState). record x { text_faults = h3.text_faults }) whole;
+      same =
+        p.same
+        ∙ ap (λ (t : Option (List ℕ)). record h2 { text = t; put = h3.put; text_faults = h3.text_faults }) p.text
+        ∙ ap (λ (n : ℕ). record (text_with h2 (take p.count text)) { put = n; text_faults = h3.text_faults }) (p.put ∙ ap (more h2.put) (sym taken))
+        ∙ ap {A = HostState} (λ (x : HostState). record x { text_faults = h3.text_faults }) whole;
     }
 
 pub not_begun : (h h2 : HostState) (sent : Sent) → TextNotBegun h h2 → PartSent sent h h2
-not_begun h h2 sent f = inl record { rose = f.rose; later = f.later; same = f.same }
+not_begun h h2 sent f = inl f
 
 -- ---- The file, and its program
 
 abbrev source_long : Refusal
-source_long = record { number = 23; place = 262144 }
+source_long = record { number = 23; place = source_limit }
 
 abbrev text_long : Refusal
-text_long = record { number = 35; place = 67108864 }
+text_long = too_long_text
 
 module _ (name : List ℕ) (h h2 : HostState) where
   pub unfetched : (s : Stop) → Fetched source_long name h h2 (Err s) → Made action.Compile name h h2 (Err s)
@@ -131,10 +136,10 @@ module _ (name : List ℕ) (h h2 : HostState) where
   unfetched_text stop.WriteFault f = absurd f
   unfetched_text stop.Memory f = f
 
-  pub text_read : (file slice : List ℕ) (p : CProgram) → h2 ≡ h → IsFile h name file → length file ≤ 67108864 → slice ≡ file → IsAnswer slice (Ok p) → Made (action.Exec 0) name h h2 (Ok (p, []))
+  pub text_read : (file slice : List ℕ) (p : CProgram) → h2 ≡ h → IsFile h name file → length file ≤ text_limit → slice ≡ file → IsAnswer slice (Ok p) → Made (action.Exec 0) name h h2 (Ok (p, []))
   text_read file slice p same is_file le e f = (same, (file, is_file, (le, subst (λ (l : List ℕ). IsAnswer l (Ok p)) e f)))
 
-  pub text_refused : (file slice : List ℕ) (r : CRefusal) → h2 ≡ h → IsFile h name file → length file ≤ 67108864 → slice ≡ file → IsAnswer slice (Err (c_stop.Refused r)) → Made (action.Exec 0) name h h2 (Err (stop.Refused (text_refusal r)))
+  pub text_refused : (file slice : List ℕ) (r : CRefusal) → h2 ≡ h → IsFile h name file → length file ≤ text_limit → slice ≡ file → IsAnswer slice (Err (c_stop.Refused r)) → Made (action.Exec 0) name h h2 (Err (stop.Refused (text_refusal r)))
   text_refused file slice r same is_file le e f = (same, (file, is_file, inr (le, (r, subst (λ (l : List ℕ). IsAnswer l (Err (c_stop.Refused r))) e f, refl))))
 
   pub to_run : (most : ℕ) (r : Result (CProgram × List ℕ) Stop) → Made action.Compile name h h2 r → Made (action.Run most) name h h2 r

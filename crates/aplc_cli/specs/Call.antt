@@ -1,7 +1,10 @@
 -- What a call of the program comes to.
 use Rattle.std.specs.Prelude.{◌≡◌, ◌⊎◌, ℕ, ◌≤◌, false, true, List, [], take, length, ◌<◌, Option, None, Some, Result, Ok, Err}
-use Rattle.aplc_io.specs.Outside.{SourceState, SinkState, HostState, Target, target_of, Rose, IsFile, FetchFails, IsMissing, set_to, sink_with}
+use Rattle.aplc_io.specs.Outside.{next, more, SourceState, SinkState, HostState, Target, target_of, Rose, IsFile, FetchFails, TextNotBegun, IsMissing, set_to, sink_with}
 use Rattle.aplc_io.specs.Parts.{PartWritten, Tried}
+use Rattle.aplc_io.specs.declared.traits.Failed.{Failed}
+use Rattle.std.specs.declared.io.ErrorKind.{ErrorKind}
+use Rattle.std.specs.declared.io.ErrorKind.TheVariants.{OutOfMemory}
 use Rattle.aplc_cprof.specs.declared.syntax.CProgram.{CProgram}
 use Rattle.aplc_cprof.specs.Behaviour.{Standing, behaviour}
 use Rattle.aplc_lex.specs.declared.token.Refusal.{Refusal}
@@ -26,6 +29,10 @@ pub record Outside : Type 0 where
   pub input : SourceState
   pub out : SinkState
 
+-- what a host, an input and an output tell
+abbrev pub outside : HostState → SourceState → SinkState → Outside
+outside h i o = record { host = h; input = i; out = o }
+
 abbrev pub streams : Outside → Streams
 streams w = record { input = w.input; out = w.out }
 
@@ -34,9 +41,10 @@ pub record Sent : Type 0 where
   pub target : Target
   pub bytes : List ℕ
 
+-- a host to which a text was handed over, if there was one: it was begun once, and its bytes were taken once
 abbrev pub host_after : Option Sent → HostState → HostState
 host_after None h = h
-host_after (Some s) h = record h { text = set_to h.text s.bytes; target = set_to h.target (Some s.target) }
+host_after (Some s) h = record h { text = set_to h.text s.bytes; target = set_to h.target (Some s.target); begun = next h.begun; put = more h.put (length s.bytes) }
 
 -- ---- The definition: what a command, a file, its text and the input make
 
@@ -124,13 +132,7 @@ pub record FetchFault (c : Option Command) (old new : Outside) : Type 0 where
   pub fails : FetchFails command.name old.host new.host
   pub rest : new ≡ record old { host = new.host }
 
--- the text could not begin: the host has none of it
-pub record NotBegun (old new : HostState) : Type 0 where
-  pub rose : Rose old.text_faults new.text_faults
-  pub later : old.text_faults ≤ new.text_faults
-  pub same : new ≡ record old { text = set_to old.text []; text_faults = new.text_faults }
-
--- a fault cut the text short: the host has a part of it from the front, behind its target
+-- a fault cut the text short: the host took a part of it from the front, behind its target
 pub record CutShort (sent : Sent) (old new : HostState) : Type 0 where
   pub count : ℕ
   pub short : count < length sent.bytes
@@ -138,8 +140,9 @@ pub record CutShort (sent : Sent) (old new : HostState) : Type 0 where
   pub later : old.text_faults ≤ new.text_faults
   pub same : new ≡ record (host_after (Some (record sent { bytes = take count sent.bytes })) old) { text_faults = new.text_faults }
 
+-- the text could not begin, and the host has none of it; or it was cut short
 abbrev pub PartSent : Sent → HostState → HostState → Type 0
-PartSent sent old new = NotBegun old new ⊎ CutShort sent old new
+PartSent sent old new = TextNotBegun old new ⊎ CutShort sent old new
 
 -- a part of the text at most is in the host, and nothing else changed
 pub record TextFault (c : Option Command) (old new : Outside) : Type 0 where
@@ -168,6 +171,11 @@ Works c old new (Err stop.WriteFault) = TextFault c old new ⊎ RunFault OutputF
 Works c old new (Err stop.Memory) = (new ≡ old) ⊎ RunFault MemoryWanted c old new
 Works c old new result = Meets c old new result
 
+-- these bytes were written whole, or a fault cut them short
+abbrev pub Wrote : List ℕ → SinkState → SinkState → Result (Unit {0}) Failed → Type 0
+Wrote bytes old new (Ok done) = new ≡ sink_with old bytes
+Wrote bytes old new (Err fault) = PartWritten bytes old new
+
 -- The line on err, whole; or a part of it, and then WRITE FAULT tried once.
 abbrev pub Reports : Result Came Stop → SinkState → SinkState → Status → Type 0
 Reports (Err stop.WriteFault) old new s = (s ≡ status.WriteFault) × Tried (line (Err stop.WriteFault)) old new
@@ -179,6 +187,11 @@ pub record Ends (c : Option Command) (old new : Outside) (old_err new_err : Sink
   pub result : Result Came Stop
   pub work : Works c old new result
   pub report : Reports result old_err new_err s
+
+-- how many files were fetched, with those of a command: one, or none where the words name no command
+abbrev pub fetches_of : Option Command → ℕ → ℕ
+fetches_of None n = n
+fetches_of (Some c) n = next n
 
 -- ---- The steps of the work
 
@@ -334,3 +347,41 @@ CarriesOut (Some c) = (m : ℕ) × (steps_for c.action ≡ Some m)
 abbrev pub Executes : Option Command → Type 0
 Executes None = ⊥
 Executes (Some c) = (m : ℕ) × (c.action ≡ action.Exec m)
+
+-- a count is as it was, or one higher
+abbrev pub AtMostOnce : ℕ → ℕ → Type 0
+AtMostOnce old new = (new ≡ old) ⊎ (new ≡ next old)
+
+-- nothing of the text changed, nor was any begun or taken
+pub record KeepsText (old new : HostState) : Type 0 where
+  pub text : new.text ≡ old.text
+  pub target : new.target ≡ old.target
+  pub begun : new.begun ≡ old.begun
+  pub put : new.put ≡ old.put
+
+-- What a call says: the whole of it, and what follows from that for each status.
+pub record Answers (c : Option Command) (old new : Outside) (old_err new_err : SinkState) (s : Status) : Type 0 where
+  pub ends : Ends c old new old_err new_err s
+  pub done : s ≡ status.Done → IsCompiledOnly c old new old_err new_err ⊎ IsRun c old new old_err new_err s
+  pub ran : IsOfRun s → IsRun c old new old_err new_err s
+  pub stuck : s ≡ status.Stuck → Executes c
+  pub refused : s ≡ status.Refused → IsRefused c old new old_err new_err
+  pub usage : s ≡ status.Usage → IsUsage c old new old_err new_err
+  pub read_fault : s ≡ status.ReadFault → HasReadCause c old new
+  pub write_fault : s ≡ status.WriteFault → HasWriteCause old new old_err new_err
+  pub counts : IsAnswer s → KeepsCounts old new old_err new_err
+  pub untouched : (CarriesOut c → ⊥) → (new.input ≡ old.input) × (new.out ≡ old.out)
+  pub no_text : Executes c → KeepsText old.host new.host
+  pub begun : AtMostOnce old.host.begun new.host.begun
+
+-- ---- The program
+
+-- why there are no words
+abbrev pub no_words : ErrorKind → Stop
+no_words OutOfMemory = stop.Memory
+no_words _ = stop.Usage
+
+-- There are no words, and nothing but err changed: it has the line for that.
+pub record IsWordless (k : ErrorKind) (old new : Outside) (old_err new_err : SinkState) (s : Status) : Type 0 where
+  pub report : Reports (Err (no_words k)) old_err new_err s
+  pub rest : new ≡ old

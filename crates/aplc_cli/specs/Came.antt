@@ -1,5 +1,5 @@
 -- What the work of a call comes to, what is said of it on err, and the status.
-use Rattle.std.specs.Prelude.{ℕ, ℤ, nat_eq, nat_lt, ◌||◌, if◌then◌else◌, List, [], ◌++◌, Result, Ok, Err, codes}
+use Rattle.std.specs.Prelude.{ℕ, ℤ, nat_eq, nat_lt, ◌||◌, if◌then◌else◌, List, [], ◌++◌, Option, None, Some, unwrap_or, Result, Ok, Err, codes}
 use Rattle.std.specs.Fmt.{decimal, signed_decimal}
 use Rattle.aplc_scalar.specs.declared.kind.FaultKind.{FaultKind}
 use Rattle.aplc_scalar.specs.declared.kind.FaultKind.TheVariants as fault
@@ -46,35 +46,37 @@ result_map f (Err e) = Err e
 
 -- ---- The line on err
 
--- the refusals of tokens
+-- the words of refusals 1 to 5: of tokens
 abbrev pub token_word : ℕ → List ℕ
 token_word n =
     if nat_eq n 1 then codes "UTF8" else (if nat_eq n 2 then codes "CHARACTER" else (if nat_eq n 3 then codes "QUOTE"
     else (if nat_eq n 4 then codes "NUMBER" else codes "NAME")))
 
--- those of statements, headers and declarations
+-- of 6 to 11: of statements, headers and declarations
 abbrev pub program_word : ℕ → List ℕ
 program_word n =
     if nat_eq n 6 then codes "HEADER" else (if nat_eq n 7 then codes "FORM" else (if nat_eq n 8 then codes "NESTING"
     else (if nat_eq n 9 then codes "NODES" else (if nat_eq n 10 then codes "COUNT" else codes "DECLARATION"))))
 
--- those of names
+-- of 12 to 16: of names
 abbrev pub name_word : ℕ → List ℕ
 name_word n =
     if nat_eq n 12 then codes "TWICE" else (if nat_eq n 13 then codes "FUNCTION" else (if nat_eq n 14 then codes "SHADOW"
     else (if nat_eq n 15 then codes "MAIN" else codes "ASSIGN")))
 
--- those of files and C texts, and of what is not built
-abbrev pub text_word : ℕ → List ℕ
+-- of files and C texts, and of what is not built
+abbrev pub text_word : ℕ → Option (List ℕ)
 text_word n =
-    if nat_eq n 30 then codes "PREAMBLE" else (if nat_eq n 31 then codes "BYTE" else (if nat_eq n 32 then codes "FORM"
-    else (if nat_eq n 33 then codes "NAME" else (if nat_eq n 34 then codes "NESTING"
-    else (if nat_eq n 23 || nat_eq n 35 then codes "TOO LONG" else codes "LATER")))))
+    if nat_eq n 30 then Some (codes "PREAMBLE") else (if nat_eq n 31 then Some (codes "BYTE")
+    else (if nat_eq n 32 then Some (codes "FORM") else (if nat_eq n 33 then Some (codes "NAME")
+    else (if nat_eq n 34 then Some (codes "NESTING") else (if nat_eq n 23 || nat_eq n 35 then Some (codes "TOO LONG")
+    else (if nat_eq n 90 then Some (codes "LATER") else None))))))
 
-abbrev pub refusal_word : ℕ → List ℕ
+-- the word of a refusal's number; a number that no stage gives has none
+abbrev pub refusal_word : ℕ → Option (List ℕ)
 refusal_word n =
-    if nat_lt n 1 then text_word n else (if nat_lt n 6 then token_word n else (if nat_lt n 12 then program_word n
-    else (if nat_lt n 17 then name_word n else text_word n)))
+    if nat_lt n 1 then None else (if nat_lt n 6 then Some (token_word n) else (if nat_lt n 12 then Some (program_word n)
+    else (if nat_lt n 17 then Some (name_word n) else text_word n)))
 
 abbrev pub fault_word : FaultKind → List ℕ
 fault_word fault.Domain = codes "DOMAIN"
@@ -97,7 +99,7 @@ usage_line =
     ++ codes "aplc --exec [--steps M] [--stats] FILE; aplc --make N\n"
 
 abbrev pub refusal_line : Refusal → List ℕ
-refusal_line r = codes "REFUSED " ++ (decimal r.number ++ (codes " " ++ (refusal_word r.number ++ (codes " AT " ++ (decimal r.place ++ codes "\n")))))
+refusal_line r = codes "REFUSED " ++ (decimal r.number ++ (codes " " ++ (unwrap_or (refusal_word r.number) [] ++ (codes " AT " ++ (decimal r.place ++ codes "\n")))))
 
 abbrev pub fault_line : FaultKind → List ℕ → ℤ → List ℕ
 fault_line k name l = fault_word k ++ (codes " ERROR " ++ (name ++ (codes "[" ++ (signed_decimal l ++ codes "]\n"))))

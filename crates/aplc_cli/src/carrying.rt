@@ -22,7 +22,8 @@ pub fn carry_out<S: Source, O: Sink>(
     requires ready { CanRun machine }
     requires fresh { machine.live.steps ≡ 0 }
     requires open { machine.ended ≡ false }
-    ensures { (p : CProgram) → ((i : List ℕ) → Stands p machine [] i (initial (code_of p) i)) → Carried p budget
+    ensures late { S.met input.old ≡ false → S.late input.new ≡ S.late input.old }
+    ensures carried { (p : CProgram) → ((i : List ℕ) → Stands p machine [] i (initial (code_of p) i)) → Carried p budget
         (record { input = S.state input.old; out = O.state out.old })
         (record { input = S.state input.new; out = O.state out.new }) (result_map told result) }
 {

@@ -3,7 +3,7 @@
 
 ghost use Rattle.std.specs.Prelude.{◌≡◌, ◌≤◌, true, is_some, length, IfOk, IfErr};
 ghost use Rattle.aplc_names.specs.Sums.{main_tasks};
-ghost use Rattle.aplc_cli.specs.Sources.{IsSource};
+ghost use Rattle.aplc_cli.specs.Sources.{IsSource, source_limit};
 ghost use Rattle.aplc_cli.specs.Compiled.{Behaves};
 ghost use Rattle.aplc_cli.specs.Came.{result_map};
 ghost use Rattle.aplc_cli.specs.Call.{Compiles, StopsAt};
@@ -30,7 +30,7 @@ pub struct Compiled {
 
 /// The program of a file, all of which is built.
 fn read_built(alloc: Global, file: &[u8]) -> Result<Bound, Stop>
-    requires { length file.now ≤ 262144 }
+    requires { length file.now ≤ source_limit }
     ensures source { IfOk result (λ b. IsSource file.now b) }
     ensures tasks { IfOk result (λ b. is_some (main_tasks b) ≡ true) }
     ensures refused { IfErr result (StopsAt file.now) }
@@ -48,14 +48,11 @@ fn read_built(alloc: Global, file: &[u8]) -> Result<Bound, Stop>
 
 /// The C program of a file of at most `SOURCE_LIMIT` bytes, or its refusal.
 fn compile_program(alloc: Global, file: &[u8]) -> Result<CProgram, Stop>
-    requires { length file.now ≤ 262144 }
+    requires { length file.now ≤ source_limit }
     ensures made { IfOk result (Behaves file.now) }
     ensures refused { IfErr result (StopsAt file.now) }
 {
-    let bound = match read_built(alloc, file) {
-        Ok(bound) => bound,
-        Err(stop) => return Err(stop),
-    };
+    let bound = read_built(alloc, file)?;
     match generate(alloc, bound.program()) {
         Ok(program) => Ok(program),
         Err(_) => Err(Stop::Memory),
@@ -64,13 +61,10 @@ fn compile_program(alloc: Global, file: &[u8]) -> Result<CProgram, Stop>
 
 /// The program and the C text of a file of at most `SOURCE_LIMIT` bytes, or its refusal.
 pub fn compile(alloc: Global, file: &[u8]) -> Result<Compiled, Stop>
-    requires { length file.now ≤ 262144 }
+    requires { length file.now ≤ source_limit }
     ensures { Compiles file.now (result_map (λ c. (c.program, c.text.items)) result) }
 {
-    let program = match compile_program(alloc, file) {
-        Ok(program) => program,
-        Err(stop) => return Err(stop),
-    };
+    let program = compile_program(alloc, file)?;
     match print(alloc, &program) {
         Ok(text) => Ok(Compiled { program, text }),
         Err(_) => Err(Stop::Memory),

@@ -13,12 +13,18 @@ const OPEN: &[u8] = b"static void f0(void);\nstatic void f0(void) {\n";
 
 const TAIL: &[u8] = b"}\nint main(void) {\nf0();\nreturn 0;\n}\n";
 
-fn text_with(alloc: Global, lines: &[u8]) -> Result<Vec<u8>, Fail> {
+// Tables and globals, and the lines.
+fn text_of(alloc: Global, globals: &[u8], lines: &[u8]) -> Result<Vec<u8>, Fail> {
     let mut text = preamble_bytes().to_vec(alloc)?;
+    text.extend_from_slice(globals)?;
     text.extend_from_slice(OPEN)?;
     text.extend_from_slice(lines)?;
     text.extend_from_slice(TAIL)?;
     Ok(text)
+}
+
+fn text_with(alloc: Global, lines: &[u8]) -> Result<Vec<u8>, Fail> {
+    text_of(alloc, b"", lines)
 }
 
 // The status, out and the line on err.
@@ -29,11 +35,24 @@ struct Answer<'a> {
     err: &'a [u8],
 }
 
+const INPUT: &[u8] = b"12 \xc2\xaf3\n";
+
 fn execute(
     rt: &impl Abort,
     alloc: Global,
     options: &[&str],
     text: Vec<u8>,
+    answer: &Answer<'_>,
+) -> Result<(), Fail> {
+    execute_on(rt, alloc, options, text, INPUT, answer)
+}
+
+fn execute_on(
+    rt: &impl Abort,
+    alloc: Global,
+    options: &[&str],
+    text: Vec<u8>,
+    input: &[u8],
     answer: &Answer<'_>,
 ) -> Result<(), Fail> {
     let mut words = Vec::new(alloc);
@@ -44,7 +63,7 @@ fn execute(
     words.push(String::from_str(alloc, "f")?)?;
     let mut host = MemHost::new(alloc, 100, Vec::new(alloc))?;
     host.add("f", text)?;
-    let mut input = MemSource::new(b"12 \xc2\xaf3\n".to_vec(alloc)?, Vec::new(alloc));
+    let mut input = MemSource::new(input.to_vec(alloc)?, Vec::new(alloc));
     let mut out = MemSink::new(alloc, 100, Vec::new(alloc))?;
     let mut err = MemSink::new(alloc, 100, Vec::new(alloc))?;
     let status = aplc(alloc, words, &mut host, &mut input, &mut out, &mut err);
@@ -84,6 +103,108 @@ fn executes_texts(rt: HostRuntime) -> Result<(), Fail> {
         err: b"LENGTH ERROR [0]\n",
     };
     executes(&rt, rt.alloc(), b"fault(2);\n", &length)
+}
+
+// What is there in the text before its functions, its lines, and the input; out and the line on err.
+struct Taking<'a> {
+    globals: &'a [u8],
+    lines: &'a [u8],
+    input: &'a [u8],
+    out: &'a [u8],
+    err: &'a [u8],
+}
+
+fn takes(rt: &impl Abort, alloc: Global, case: &Taking<'_>) -> Result<(), Fail> {
+    let status = if case.err.is_empty() {
+        Status::Done
+    } else {
+        Status::Faulted
+    };
+    let answer = Answer {
+        status,
+        out: case.out,
+        err: case.err,
+    };
+    let text = text_of(alloc, case.globals, case.lines)?;
+    execute_on(rt, alloc, &[], text, case.input, &answer)
+}
+
+const TEXT: &[u8] =
+    b"int64_t v0;\nint64_t *b0 = 0;\nb0 = read_text();\nv0 = read_n;\nput_num(v0, 0LL);\n";
+
+const NUMS: &[u8] =
+    b"int64_t v0;\nint64_t *b0 = 0;\nb0 = read_nums();\nv0 = read_n;\nput_num(v0, 0LL);\n";
+
+// Memory is there for tables, globals, cells and lines; a line that is none is INPUT.
+#[test]
+fn has_memory(rt: HostRuntime) -> Result<(), Fail> {
+    let cases = [
+        Taking {
+            globals: b"static const int64_t k0[2] = {4, -9};\n",
+            lines: b"put_num(k0[0LL], 0LL);\nput_num((0LL - k0[1LL]), 0LL);\n",
+            input: b"",
+            out: b"49",
+            err: b"",
+        },
+        Taking {
+            globals: b"static int64_t g0;\nstatic int64_t *h0;\n",
+            lines: b"h0 = cells(1000LL);\nh0[999LL] = 6LL;\ng0 = h0[999LL];\nput_num(g0, 0LL);\n",
+            input: b"",
+            out: b"6",
+            err: b"",
+        },
+        Taking {
+            globals: b"",
+            lines: NUMS,
+            input: b"1 x\n",
+            out: b"",
+            err: b"INPUT ERROR [0]\n",
+        },
+        Taking {
+            globals: b"",
+            lines: NUMS,
+            input: b"\xff\n",
+            out: b"",
+            err: b"INPUT ERROR [0]\n",
+        },
+        Taking {
+            globals: b"",
+            lines: TEXT,
+            input: b"\xff\n",
+            out: b"",
+            err: b"INPUT ERROR [0]\n",
+        },
+    ];
+    for case in &cases {
+        takes(&rt, rt.alloc(), case)?;
+    }
+    Ok(())
+}
+
+// Lines of 20,000 bytes: so many characters, and half as many numbers.
+#[test]
+fn takes_long_lines(rt: HostRuntime) -> Result<(), Fail> {
+    let alloc = rt.alloc();
+    let mut line = Vec::new(alloc);
+    for _ in 0..10_000 {
+        line.extend_from_slice(b"1 ")?;
+    }
+    let text = Taking {
+        globals: b"",
+        lines: TEXT,
+        input: line.as_slice(),
+        out: b"20000",
+        err: b"",
+    };
+    takes(&rt, alloc, &text)?;
+    let nums = Taking {
+        globals: b"",
+        lines: NUMS,
+        input: line.as_slice(),
+        out: b"10000",
+        err: b"",
+    };
+    takes(&rt, alloc, &nums)
 }
 
 #[test]

@@ -5,6 +5,9 @@
 mod carrying;
 mod compiling;
 mod digits;
+mod entering;
+#[cfg(test)]
+mod entry_tests;
 #[cfg(test)]
 mod exec_tests;
 mod later;
@@ -21,6 +24,10 @@ mod top;
 mod words;
 
 pub use aplc_lex::Refusal;
-pub use laws::{one_refusal, one_source, source_or_refusal};
+pub use entering::entry;
+pub use laws::{
+    every_file, every_refusal_has_a_word, every_text, one_refusal, one_source, one_text,
+    one_text_refusal, source_or_refusal, text_or_refusal,
+};
 pub use status::Status;
 pub use top::aplc;

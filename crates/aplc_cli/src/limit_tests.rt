@@ -54,6 +54,23 @@ fn most_is_read(rt: HostRuntime) -> Result<(), Fail> {
     runs(&rt, alloc, "2+3 ⍝ five", b"5\n", b"")
 }
 
+// Memory is there for trees that lean to the left, for elided places, and for the most functions.
+#[test]
+fn has_memory(rt: HostRuntime) -> Result<(), Fail> {
+    let alloc = rt.alloc();
+    let open = times(alloc, "(", 32)?;
+    let close = times(alloc, "+1)", 32)?;
+    let left = format!(in alloc; "{open}1{close}")?;
+    runs(&rt, alloc, left.as_str(), b"33\n", b"")?;
+    runs(&rt, alloc, "A[1;;2]←3", b"", b"REFUSED 90 LATER AT 8\n")?;
+    let mut most = String::from_str(alloc, "1")?;
+    for i in 0..998 {
+        let function = format!(in alloc; "\n∇\n∇F{i}")?;
+        most.push_str(function.as_str())?;
+    }
+    runs(&rt, alloc, most.as_str(), b"1\n", b"")
+}
+
 #[test]
 fn more_is_refused(rt: HostRuntime) -> Result<(), Fail> {
     let alloc = rt.alloc();

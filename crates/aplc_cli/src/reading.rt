@@ -3,7 +3,7 @@
 
 ghost use Rattle.std.specs.Prelude.{◌≤◌, length, IfOk, IfErr};
 ghost use Rattle.aplc_names.specs.Programs.{IsClean};
-ghost use Rattle.aplc_cli.specs.Sources.{Spells};
+ghost use Rattle.aplc_cli.specs.Sources.{Spells, source_limit};
 ghost use Rattle.aplc_cli.specs.Call.{RefusesSource};
 
 use aplc_lex::{Token, tokens};
@@ -13,7 +13,7 @@ use std::alloc::Global;
 
 /// The program of a file, or its first refusal among those of tokens, statements and names.
 pub fn read_program(alloc: Global, file: &[u8]) -> Result<Bound, Stop>
-    requires { length file.now ≤ 262144 }
+    requires { length file.now ≤ source_limit }
     ensures spells { IfOk result (λ b. Spells file.now b) }
     ensures clean { IfOk result (λ b. IsClean b) }
     ensures refused { IfErr result (RefusesSource file.now) }

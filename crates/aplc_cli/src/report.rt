@@ -1,11 +1,9 @@
 //! The line on err for what a call came to, and the status.
 //! It must not know how the work was done.
 
-ghost use Rattle.std.specs.Prelude.{◌≡◌, ◌++◌, codes, Ok, Err, OnOk, OnErr};
-ghost use Rattle.aplc_io.specs.Outside.{sink_with};
-ghost use Rattle.aplc_io.specs.Parts.{PartWritten};
+ghost use Rattle.std.specs.Prelude.{◌≡◌, ◌++◌, codes, Ok, Err, option_map};
 ghost use Rattle.aplc_cli.specs.Came.{line, status_of, refusal_line, token_word, program_word, name_word, text_word, refusal_word, fault_word, cause_word, fault_line, stuck_line, told, result_map};
-ghost use Rattle.aplc_cli.specs.Call.{Reports};
+ghost use Rattle.aplc_cli.specs.Call.{Reports, Wrote};
 ghost use Rattle.aplc_crun.specs.Running.{place_name, place_line};
 
 use crate::status::{Ending, RunEnd, Stop};
@@ -18,7 +16,7 @@ use itoa::Buffer;
 const USAGE: &[u8] =
     b"usage: aplc [-o NAME] FILE; aplc --run [--steps M] [--stats] [-o NAME] FILE; aplc --check FILE; aplc --exec [--steps M] [--stats] FILE; aplc --make N\n";
 
-// The words of refusals: of tokens.
+// The words of refusals 1 to 5: of tokens.
 fn token_word(number: u8) -> &'static [u8]
     ensures { result.now ≡ token_word number }
 {
@@ -31,7 +29,7 @@ fn token_word(number: u8) -> &'static [u8]
     }
 }
 
-// Of statements, headers and declarations.
+// Of 6 to 11: of statements, headers and declarations.
 fn program_word(number: u8) -> &'static [u8]
     ensures { result.now ≡ program_word number }
 {
@@ -45,7 +43,7 @@ fn program_word(number: u8) -> &'static [u8]
     }
 }
 
-// Of names.
+// Of 12 to 16: of names.
 fn name_word(number: u8) -> &'static [u8]
     ensures { result.now ≡ name_word number }
 {
@@ -59,28 +57,29 @@ fn name_word(number: u8) -> &'static [u8]
 }
 
 // Of files and C texts, and of what is not built.
-fn text_word(number: u8) -> &'static [u8]
-    ensures { result.now ≡ text_word number }
+fn text_word(number: u8) -> Option<&'static [u8]>
+    ensures { option_map (λ w. w.now) result ≡ text_word number }
 {
     match number {
-        30 => b"PREAMBLE",
-        31 => b"BYTE",
-        32 => b"FORM",
-        33 => b"NAME",
-        34 => b"NESTING",
-        23 | 35 => b"TOO LONG",
-        _ => b"LATER",
+        30 => Some(b"PREAMBLE"),
+        31 => Some(b"BYTE"),
+        32 => Some(b"FORM"),
+        33 => Some(b"NAME"),
+        34 => Some(b"NESTING"),
+        23 | 35 => Some(b"TOO LONG"),
+        90 => Some(b"LATER"),
+        _ => None,
     }
 }
 
-// The word of a refusal's number.
-fn refusal_word(number: u8) -> &'static [u8]
-    ensures { result.now ≡ refusal_word number }
+// The word of a refusal's number. A number that no stage gives has none.
+fn refusal_word(number: u8) -> Option<&'static [u8]>
+    ensures { option_map (λ w. w.now) result ≡ refusal_word number }
 {
     match number {
-        1..=5 => token_word(number),
-        6..=11 => program_word(number),
-        12..=16 => name_word(number),
+        1..=5 => Some(token_word(number)),
+        6..=11 => Some(program_word(number)),
+        12..=16 => Some(name_word(number)),
         _ => text_word(number),
     }
 }
@@ -111,20 +110,20 @@ fn cause_word(cause: StuckCause) -> &'static [u8]
 }
 
 fn write_refusal<E: Sink>(err: &mut E, refusal: Refusal) -> Result<(), Failed>
-    ensures whole { OnOk result (E.state err.new ≡ sink_with (E.state err.old) (refusal_line refusal)) }
-    ensures part { OnErr result (PartWritten (refusal_line refusal) (E.state err.old) (E.state err.new)) }
+    ensures { Wrote (refusal_line refusal) (E.state err.old) (E.state err.new) result }
 {
     let mut number = Buffer::new();
     let mut place = Buffer::new();
     let number = number.format(refusal.number).as_bytes();
     let place = place.format(refusal.place).as_bytes();
+    let word = refusal_word(refusal.number).unwrap_or(&[]);
     write_pieces(
         err,
         &[
             b"REFUSED ",
             number,
             b" ",
-            refusal_word(refusal.number),
+            word,
             b" AT ",
             place,
             b"\n",
@@ -139,16 +138,14 @@ fn write_parts<'a, E: Sink>(
     name: &'a [u8],
     line: &'a [u8],
 ) -> Result<(), Failed>
-    ensures whole { OnOk result (E.state err.new ≡ sink_with (E.state err.old) (word.now ++ (codes " ERROR " ++ (name.now ++ (codes "[" ++ (line.now ++ codes "]\n")))))) }
-    ensures part { OnErr result (PartWritten (word.now ++ (codes " ERROR " ++ (name.now ++ (codes "[" ++ (line.now ++ codes "]\n"))))) (E.state err.old) (E.state err.new)) }
+    ensures { Wrote (word.now ++ (codes " ERROR " ++ (name.now ++ (codes "[" ++ (line.now ++ codes "]\n"))))) (E.state err.old) (E.state err.new) result }
 {
     write_pieces(err, &[word, b" ERROR ", name, b"[", line, b"]\n"])
 }
 
 // The kind of a fault, and the place where the machine stands.
 fn write_fault<E: Sink>(err: &mut E, kind: FaultKind, machine: &Machine) -> Result<(), Failed>
-    ensures whole { OnOk result (E.state err.new ≡ sink_with (E.state err.old) (fault_line kind (place_name machine.now) (place_line machine.now))) }
-    ensures part { OnErr result (PartWritten (fault_line kind (place_name machine.now) (place_line machine.now)) (E.state err.old) (E.state err.new)) }
+    ensures { Wrote (fault_line kind (place_name machine.now) (place_line machine.now)) (E.state err.old) (E.state err.new) result }
 {
     let mut buffer = Buffer::new();
     let line = buffer.format(machine.place_line()).as_bytes();
@@ -156,8 +153,7 @@ fn write_fault<E: Sink>(err: &mut E, kind: FaultKind, machine: &Machine) -> Resu
 }
 
 fn write_stuck<E: Sink>(err: &mut E, cause: StuckCause, statement: u64) -> Result<(), Failed>
-    ensures whole { OnOk result (E.state err.new ≡ sink_with (E.state err.old) (stuck_line cause statement)) }
-    ensures part { OnErr result (PartWritten (stuck_line cause statement) (E.state err.old) (E.state err.new)) }
+    ensures { Wrote (stuck_line cause statement) (E.state err.old) (E.state err.new) result }
 {
     let mut buffer = Buffer::new();
     let statement = buffer.format(statement).as_bytes();
@@ -168,8 +164,7 @@ fn write_stuck<E: Sink>(err: &mut E, cause: StuckCause, statement: u64) -> Resul
 }
 
 fn write_end<E: Sink>(err: &mut E, end: RunEnd, machine: &Machine) -> Result<(), Failed>
-    ensures whole { OnOk result (E.state err.new ≡ sink_with (E.state err.old) (line (Ok (told (Ending.Ran end machine.now))))) }
-    ensures part { OnErr result (PartWritten (line (Ok (told (Ending.Ran end machine.now)))) (E.state err.old) (E.state err.new)) }
+    ensures { Wrote (line (Ok (told (Ending.Ran end machine.now)))) (E.state err.old) (E.state err.new) result }
 {
     match end {
         RunEnd::Ended => Ok(()),
@@ -180,8 +175,7 @@ fn write_end<E: Sink>(err: &mut E, end: RunEnd, machine: &Machine) -> Result<(),
 }
 
 fn write_ending<E: Sink>(err: &mut E, ending: &Ending) -> Result<(), Failed>
-    ensures whole { OnOk result (E.state err.new ≡ sink_with (E.state err.old) (line (Ok (told ending.now)))) }
-    ensures part { OnErr result (PartWritten (line (Ok (told ending.now))) (E.state err.old) (E.state err.new)) }
+    ensures { Wrote (line (Ok (told ending.now))) (E.state err.old) (E.state err.new) result }
 {
     match ending {
         Ending::Compiled => Ok(()),
@@ -190,8 +184,7 @@ fn write_ending<E: Sink>(err: &mut E, ending: &Ending) -> Result<(), Failed>
 }
 
 fn write_stop<E: Sink>(err: &mut E, stop: Stop) -> Result<(), Failed>
-    ensures whole { OnOk result (E.state err.new ≡ sink_with (E.state err.old) (line (Err stop))) }
-    ensures part { OnErr result (PartWritten (line (Err stop)) (E.state err.old) (E.state err.new)) }
+    ensures { Wrote (line (Err stop)) (E.state err.old) (E.state err.new) result }
 {
     match stop {
         Stop::Usage => write_all(err, USAGE),
@@ -203,8 +196,7 @@ fn write_stop<E: Sink>(err: &mut E, stop: Stop) -> Result<(), Failed>
 }
 
 fn write_line<E: Sink>(err: &mut E, done: &Result<Ending, Stop>) -> Result<(), Failed>
-    ensures whole { OnOk result (E.state err.new ≡ sink_with (E.state err.old) (line (result_map told done.now))) }
-    ensures part { OnErr result (PartWritten (line (result_map told done.now)) (E.state err.old) (E.state err.new)) }
+    ensures { Wrote (line (result_map told done.now)) (E.state err.old) (E.state err.new) result }
 {
     match done {
         Ok(ending) => write_ending(err, ending),

@@ -1,10 +1,10 @@
 //! The steps of a call's work: the file and the program that is made of it or read from it, the text to the host,
 //! the run. They must not know the words.
 
-ghost use Rattle.std.specs.Prelude.{◌≡◌, true, None, Some, []};
-ghost use Rattle.aplc_io.specs.Outside.{HostState, target_of};
+ghost use Rattle.std.specs.Prelude.{◌≡◌, true, false, None, Some, []};
+ghost use Rattle.aplc_io.specs.Outside.{next, HostState, target_of};
 ghost use Rattle.aplc_cli.specs.Came.{told, result_map};
-ghost use Rattle.aplc_cli.specs.Call.{Outside, Fetched, Made, Sends, RanText};
+ghost use Rattle.aplc_cli.specs.Call.{outside, Fetched, Made, Sends, RanText};
 
 use crate::carrying::carry_out;
 use crate::compiling::{Compiled, SOURCE_LIMIT, compile};
@@ -22,7 +22,8 @@ const TEXT_LIMIT: u64 = 67_108_864;
 
 // A file of at most `long.place` bytes; one that is longer is refused with `long`.
 fn fetch<H: Host>(alloc: Global, host: &mut H, name: &str, long: Refusal) -> Result<Vec<u8>, Stop>
-    ensures { Fetched long name.now (H.state host.old) (H.state host.new) (result_map (λ v. v.items) result) }
+    ensures fetched { Fetched long name.now (H.state host.old) (H.state host.new) (result_map (λ v. v.items) result) }
+    ensures fetches { H.fetches host.new ≡ next (H.fetches host.old) }
 {
     match host.fetch(alloc, name, long.place) {
         Ok(file) => Ok(file),
@@ -34,31 +35,27 @@ fn fetch<H: Host>(alloc: Global, host: &mut H, name: &str, long: Refusal) -> Res
 
 /// What the source of this name is compiled to.
 pub fn make<H: Host>(alloc: Global, host: &mut H, name: &str) -> Result<Compiled, Stop>
-    ensures { Made Action.Compile name.now (H.state host.old) (H.state host.new) (result_map (λ c. (c.program, c.text.items)) result) }
+    ensures fetches { H.fetches host.new ≡ next (H.fetches host.old) }
+    ensures made { Made Action.Compile name.now (H.state host.old) (H.state host.new) (result_map (λ c. (c.program, c.text.items)) result) }
 {
     let long = Refusal {
         number: 23,
         place: SOURCE_LIMIT,
     };
-    let file = match fetch(alloc, host, name, long) {
-        Ok(file) => file,
-        Err(stop) => return Err(stop),
-    };
+    let file = fetch(alloc, host, name, long)?;
     compile(alloc, file.as_slice())
 }
 
 /// The program whose C text is the file of this name.
 pub fn read_text<H: Host>(alloc: Global, host: &mut H, name: &str) -> Result<CProgram, Stop>
-    ensures { Made (Action.Exec 0) name.now (H.state host.old) (H.state host.new) (result_map (λ p. (p, [])) result) }
+    ensures fetches { H.fetches host.new ≡ next (H.fetches host.old) }
+    ensures made { Made (Action.Exec 0) name.now (H.state host.old) (H.state host.new) (result_map (λ p. (p, [])) result) }
 {
     let long = Refusal {
         number: 35,
         place: TEXT_LIMIT,
     };
-    let file = match fetch(alloc, host, name, long) {
-        Ok(file) => file,
-        Err(stop) => return Err(stop),
-    };
+    let file = fetch(alloc, host, name, long)?;
     match read(alloc, file.as_slice()) {
         Ok(program) => Ok(program),
         Err(CStop::Refused(refusal)) => Err(Stop::Refused(Refusal {
@@ -71,7 +68,8 @@ pub fn read_text<H: Host>(alloc: Global, host: &mut H, name: &str) -> Result<CPr
 
 /// Hands a text to the host, which knows whether it is to be run.
 pub fn send_text<H: Host>(host: &mut H, text: &[u8], run: bool) -> Result<(), Stop>
-    ensures { Sends (record { target = target_of None run; bytes = text.now }) (H.state host.old) (H.state host.new) result }
+    ensures unfetched { H.fetches host.new ≡ H.fetches host.old }
+    ensures sends { Sends (record { target = target_of None run; bytes = text.now }) (H.state host.old) (H.state host.new) result }
 {
     if host.text_to(None, run).is_err() {
         return Err(Stop::WriteFault);
@@ -91,9 +89,11 @@ pub fn run_text<H: Host, S: Source, O: Sink>(
     out: &mut O,
     budget: u64,
 ) -> Result<Ending, Stop>
-    ensures { RanText (Some record { target = target_of None true; bytes = made.text.items }) made.program budget
-        (record { host = H.state host.old; input = S.state input.old; out = O.state out.old })
-        (record { host = H.state host.new; input = S.state input.new; out = O.state out.new }) (result_map told result) }
+    ensures unfetched { H.fetches host.new ≡ H.fetches host.old }
+    ensures late { S.met input.old ≡ false → S.late input.new ≡ S.late input.old }
+    ensures ran { RanText (Some record { target = target_of None true; bytes = made.text.items }) made.program budget
+        (outside (H.state host.old) (S.state input.old) (O.state out.old))
+        (outside (H.state host.new) (S.state input.new) (O.state out.new)) (result_map told result) }
 {
     let Compiled { program, text } = made;
     let machine = match Machine::start(alloc, program) {
@@ -115,9 +115,10 @@ pub fn run_program<S: Source, O: Sink>(
     out: &mut O,
     budget: u64,
 ) -> Result<Ending, Stop>
-    ensures { (h : HostState) → RanText None program budget
-        (record { host = h; input = S.state input.old; out = O.state out.old })
-        (record { host = h; input = S.state input.new; out = O.state out.new }) (result_map told result) }
+    ensures late { S.met input.old ≡ false → S.late input.new ≡ S.late input.old }
+    ensures ran { (h : HostState) → RanText None program budget
+        (outside h (S.state input.old) (O.state out.old))
+        (outside h (S.state input.new) (O.state out.new)) (result_map told result) }
 {
     let machine = match Machine::start(alloc, program) {
         Ok(machine) => machine,

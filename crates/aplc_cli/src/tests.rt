@@ -350,44 +350,11 @@ fn stops_in_a_run(rt: HostRuntime) -> Result<(), Fail> {
         text: b"",
         ..no_output
     };
-    check(&rt, rt.alloc(), &case, &no_text)?;
-    let case = Case {
-        words: &["--run", "f"],
-        file: "∇MAIN\n1 2\n∇\n".as_bytes(),
-        ..PLAIN
-    };
-    check(&rt, rt.alloc(), &case, &refused(b"REFUSED 90 LATER AT 8\n"))
+    check(&rt, rt.alloc(), &case, &no_text)
 }
 
-#[test]
-fn asks_for_a_file(rt: HostRuntime) -> Result<(), Fail> {
-    let usage = Answer {
-        status: Status::Usage,
-        text: b"",
-        out: b"",
-        err: b"usage: aplc [-o NAME] FILE; aplc --run [--steps M] [--stats] [-o NAME] FILE; aplc --check FILE; aplc --exec [--steps M] [--stats] FILE; aplc --make N\n",
-    };
-    let case = Case {
-        words: &[],
-        ..PLAIN
-    };
-    check(&rt, rt.alloc(), &case, &usage)?;
-    let case = Case {
-        words: &[""],
-        ..PLAIN
-    };
-    check(&rt, rt.alloc(), &case, &usage)?;
-    let case = Case {
-        words: &["-f"],
-        ..PLAIN
-    };
-    check(&rt, rt.alloc(), &case, &usage)?;
-    let case = Case {
-        words: &["f", "f"],
-        ..PLAIN
-    };
-    check(&rt, rt.alloc(), &case, &usage)
-}
+pub(crate) const USAGE: &[u8] =
+    b"usage: aplc [-o NAME] FILE; aplc --run [--steps M] [--stats] [-o NAME] FILE; aplc --check FILE; aplc --exec [--steps M] [--stats] FILE; aplc --make N\n";
 
 #[test]
 fn asks_for_words(rt: HostRuntime) -> Result<(), Fail> {
@@ -395,9 +362,17 @@ fn asks_for_words(rt: HostRuntime) -> Result<(), Fail> {
         status: Status::Usage,
         text: b"",
         out: b"",
-        err: b"usage: aplc [-o NAME] FILE; aplc --run [--steps M] [--stats] [-o NAME] FILE; aplc --check FILE; aplc --exec [--steps M] [--stats] FILE; aplc --make N\n",
+        err: USAGE,
     };
-    let cases: [&[&str]; 12] = [
+    let none = Case {
+        words: &[],
+        ..PLAIN
+    };
+    check(&rt, rt.alloc(), &none, &usage)?;
+    let cases: [&[&str]; 15] = [
+        &[""],
+        &["-f"],
+        &["f", "f"],
         &["--run"],
         &["--run", ""],
         &["--run", "-f"],

@@ -1,12 +1,12 @@
 //! The top call: its words, its work, its report.
 //! It must not know what a source, a program or a text look like.
 
-ghost use Rattle.std.specs.Prelude.{◌≡◌, ◌⊎◌, Some, map};
+ghost use Rattle.std.specs.Prelude.{◌≡◌, Some, map, false};
 ghost use Rattle.std.specs.String.{string_bytes};
 ghost use Rattle.aplc_cli.specs.Words.{command};
 ghost use Rattle.aplc_cli.specs.Came.{told, result_map};
-ghost use Rattle.aplc_cli.specs.Call.{Outside, Works, Ends, IsUsage, IsRefused, IsCompiledOnly, IsRun, IsOfRun, HasReadCause, HasWriteCause, KeepsCounts, IsAnswer, CarriesOut, Executes};
-ghost use Rattle.aplc_io.specs.Outside.{SourceState, SinkState};
+ghost use Rattle.aplc_cli.specs.Call.{outside, Works, Ends, Answers, fetches_of};
+ghost use Rattle.aplc_io.specs.Outside.{next, SourceState, SinkState};
 
 use crate::report::report;
 use crate::status::{Ending, Status, Stop};
@@ -17,9 +17,10 @@ use std::alloc::Global;
 
 // FILE
 fn compile_file<H: Host>(alloc: Global, name: &str, host: &mut H) -> Result<Ending, Stop>
-    ensures { (i : SourceState) (o : SinkState) → Works (Some record { name = name.now; action = Action.Compile })
-        (record { host = H.state host.old; input = i; out = o })
-        (record { host = H.state host.new; input = i; out = o }) (result_map told result) }
+    ensures fetches { H.fetches host.new ≡ next (H.fetches host.old) }
+    ensures works { (i : SourceState) (o : SinkState) → Works (Some record { name = name.now; action = Action.Compile })
+        (outside (H.state host.old) i o)
+        (outside (H.state host.new) i o) (result_map told result) }
 {
     let made = match make(alloc, host, name) {
         Ok(made) => made,
@@ -40,9 +41,11 @@ fn run_file<H: Host, S: Source, O: Sink>(
     out: &mut O,
     budget: u64,
 ) -> Result<Ending, Stop>
-    ensures { Works (Some record { name = name.now; action = Action.Run budget })
-        (record { host = H.state host.old; input = S.state input.old; out = O.state out.old })
-        (record { host = H.state host.new; input = S.state input.new; out = O.state out.new }) (result_map told result) }
+    ensures fetches { H.fetches host.new ≡ next (H.fetches host.old) }
+    ensures late { S.met input.old ≡ false → S.late input.new ≡ S.late input.old }
+    ensures works { Works (Some record { name = name.now; action = Action.Run budget })
+        (outside (H.state host.old) (S.state input.old) (O.state out.old))
+        (outside (H.state host.new) (S.state input.new) (O.state out.new)) (result_map told result) }
 {
     let made = match make(alloc, host, name) {
         Ok(made) => made,
@@ -60,9 +63,11 @@ fn execute_file<H: Host, S: Source, O: Sink>(
     out: &mut O,
     budget: u64,
 ) -> Result<Ending, Stop>
-    ensures { Works (Some record { name = name.now; action = Action.Exec budget })
-        (record { host = H.state host.old; input = S.state input.old; out = O.state out.old })
-        (record { host = H.state host.new; input = S.state input.new; out = O.state out.new }) (result_map told result) }
+    ensures fetches { H.fetches host.new ≡ next (H.fetches host.old) }
+    ensures late { S.met input.old ≡ false → S.late input.new ≡ S.late input.old }
+    ensures works { Works (Some record { name = name.now; action = Action.Exec budget })
+        (outside (H.state host.old) (S.state input.old) (O.state out.old))
+        (outside (H.state host.new) (S.state input.new) (O.state out.new)) (result_map told result) }
 {
     let program = match read_text(alloc, host, name) {
         Ok(program) => program,
@@ -79,9 +84,11 @@ fn work<H: Host, S: Source, O: Sink>(
     input: &mut S,
     out: &mut O,
 ) -> Result<Ending, Stop>
-    ensures { Works (command (map string_bytes words.now))
-        (record { host = H.state host.old; input = S.state input.old; out = O.state out.old })
-        (record { host = H.state host.new; input = S.state input.new; out = O.state out.new }) (result_map told result) }
+    ensures fetches { H.fetches host.new ≡ fetches_of (command (map string_bytes words.now)) (H.fetches host.old) }
+    ensures late { S.met input.old ≡ false → S.late input.new ≡ S.late input.old }
+    ensures works { Works (command (map string_bytes words.now))
+        (outside (H.state host.old) (S.state input.old) (O.state out.old))
+        (outside (H.state host.new) (S.state input.new) (O.state out.new)) (result_map told result) }
 {
     let asked = match read_words(words) {
         Some(asked) => asked,
@@ -103,9 +110,11 @@ fn carry_out<H: Host, S: Source, O: Sink, E: Sink>(
     out: &mut O,
     err: &mut E,
 ) -> Status
-    ensures { Ends (command (map string_bytes words.now))
-        (record { host = H.state host.old; input = S.state input.old; out = O.state out.old })
-        (record { host = H.state host.new; input = S.state input.new; out = O.state out.new })
+    ensures fetches { H.fetches host.new ≡ fetches_of (command (map string_bytes words.now)) (H.fetches host.old) }
+    ensures late { S.met input.old ≡ false → S.late input.new ≡ S.late input.old }
+    ensures ends { Ends (command (map string_bytes words.now))
+        (outside (H.state host.old) (S.state input.old) (O.state out.old))
+        (outside (H.state host.new) (S.state input.new) (O.state out.new))
         (E.state err.old) (E.state err.new) result }
 {
     let done = work(alloc, words, host, input, out);
@@ -132,47 +141,12 @@ pub fn aplc<H: Host, S: Source, O: Sink, E: Sink>(
     out: &mut O,
     err: &mut E,
 ) -> Status
-    ensures ends { Ends (command (map string_bytes words.items))
-        (record { host = H.state host.old; input = S.state input.old; out = O.state out.old })
-        (record { host = H.state host.new; input = S.state input.new; out = O.state out.new })
+    ensures answers { Answers (command (map string_bytes words.items))
+        (outside (H.state host.old) (S.state input.old) (O.state out.old))
+        (outside (H.state host.new) (S.state input.new) (O.state out.new))
         (E.state err.old) (E.state err.new) result }
-
-    // The rest follows from it, one status after the other.
-    ensures done { result ≡ Status.Done → IsCompiledOnly (command (map string_bytes words.items))
-        (record { host = H.state host.old; input = S.state input.old; out = O.state out.old })
-        (record { host = H.state host.new; input = S.state input.new; out = O.state out.new })
-        (E.state err.old) (E.state err.new) ⊎ IsRun (command (map string_bytes words.items))
-        (record { host = H.state host.old; input = S.state input.old; out = O.state out.old })
-        (record { host = H.state host.new; input = S.state input.new; out = O.state out.new })
-        (E.state err.old) (E.state err.new) result }
-    ensures ran { IsOfRun result → IsRun (command (map string_bytes words.items))
-        (record { host = H.state host.old; input = S.state input.old; out = O.state out.old })
-        (record { host = H.state host.new; input = S.state input.new; out = O.state out.new })
-        (E.state err.old) (E.state err.new) result }
-    ensures stuck { result ≡ Status.Stuck → Executes (command (map string_bytes words.items)) }
-    ensures refused { result ≡ Status.Refused → IsRefused (command (map string_bytes words.items))
-        (record { host = H.state host.old; input = S.state input.old; out = O.state out.old })
-        (record { host = H.state host.new; input = S.state input.new; out = O.state out.new })
-        (E.state err.old) (E.state err.new) }
-    ensures usage { result ≡ Status.Usage → IsUsage (command (map string_bytes words.items))
-        (record { host = H.state host.old; input = S.state input.old; out = O.state out.old })
-        (record { host = H.state host.new; input = S.state input.new; out = O.state out.new })
-        (E.state err.old) (E.state err.new) }
-    ensures read_fault { result ≡ Status.ReadFault → HasReadCause (command (map string_bytes words.items))
-        (record { host = H.state host.old; input = S.state input.old; out = O.state out.old })
-        (record { host = H.state host.new; input = S.state input.new; out = O.state out.new }) }
-    ensures write_fault { result ≡ Status.WriteFault → HasWriteCause
-        (record { host = H.state host.old; input = S.state input.old; out = O.state out.old })
-        (record { host = H.state host.new; input = S.state input.new; out = O.state out.new })
-        (E.state err.old) (E.state err.new) }
-    ensures counts { IsAnswer result → KeepsCounts
-        (record { host = H.state host.old; input = S.state input.old; out = O.state out.old })
-        (record { host = H.state host.new; input = S.state input.new; out = O.state out.new })
-        (E.state err.old) (E.state err.new) }
-    ensures untouched { (CarriesOut (command (map string_bytes words.items)) → ⊥) →
-        (S.state input.new ≡ S.state input.old) × (O.state out.new ≡ O.state out.old) }
-    ensures no_text { Executes (command (map string_bytes words.items)) →
-        (H.state host.new).text ≡ (H.state host.old).text × (H.state host.new).target ≡ (H.state host.old).target }
+    ensures fetches { H.fetches host.new ≡ fetches_of (command (map string_bytes words.items)) (H.fetches host.old) }
+    ensures late { S.met input.old ≡ false → S.late input.new ≡ S.late input.old }
 {
     carry_out(alloc, words.as_slice(), host, input, out, err)
 }

@@ -3,7 +3,7 @@
 
 ghost use Rattle.std.specs.Prelude.{◌≡◌, ◌≤◌, map, option_map, IfSome, IfOk};
 ghost use Rattle.std.specs.String.{string_bytes};
-ghost use Rattle.aplc_cli.specs.Words.{is_name, steps, on_file, command};
+ghost use Rattle.aplc_cli.specs.Words.{most_steps, is_name, steps, on_file, command};
 
 use crate::digits::magnitude;
 
@@ -44,7 +44,7 @@ fn is_name(word: &str) -> bool
 /// A count of steps: 1 to 16 digits, with a value from 1 to `MOST_STEPS`.
 fn steps(word: &str) -> Option<u64>
     ensures value { result ≡ steps word.now }
-    ensures most { IfSome result (λ m. m ≤ 1000000000000000) }
+    ensures most { IfSome result (λ m. m ≤ most_steps) }
 {
     if word.len() > 16 {
         return None;

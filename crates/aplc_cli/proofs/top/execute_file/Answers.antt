@@ -5,20 +5,20 @@ use Rattle.aplc_cli.specs.Call.{Outside}
 use Rattle.aplc_cli.proofs.Ended.{unmade, to_execute, ran}
 use Rattle.aplc_cli.proofs.top.execute_file.Goals as goal
 
-pub returns-in-Err : goal.returns-in-Err
-returns-in-Err g c =
+pub returns-in-Err-clause-works : goal.returns-in-Err-clause-works
+returns-in-Err-clause-works g c =
     let h = g.H.Host.state c.args.host.now in
     let h2 = g.H.Host.state c.read_text.new.host in
     let i = g.S.Source.state c.args.input.now in
     let o = g.O.Sink.state c.args.out.now in
-    unmade c.args.name.now (action.Exec c.args.budget) h i o h2 c.in-Err.stop (to_execute c.args.name.now h h2 c.args.budget (Err c.in-Err.stop) c.in-Err.ensures)
+    unmade c.args.name.now (action.Exec c.args.budget) h i o h2 c.in-Err.stop (to_execute c.args.name.now h h2 c.args.budget (Err c.in-Err.stop) c.in-Err.ensures.made)
 
-pub returns : goal.returns
-returns g c =
+pub returns-clause-works : goal.returns-clause-works
+returns-clause-works g c =
     let h = g.H.Host.state c.args.host.now in
     let h2 = g.H.Host.state c.read_text.new.host in
     let i = g.S.Source.state c.args.input.now in
     let o = g.O.Sink.state c.args.out.now in
     let new : Outside = record { host = g.H.Host.state c.read_text.new.host; input = g.S.Source.state c.run_program.new.input; out = g.O.Sink.state c.run_program.new.out } in
     ran c.args.name.now (action.Exec c.args.budget) h i o c.args.budget refl (c.in-Ok.program, []) h2 new (result_map told c.run_program.result)
-    (to_execute c.args.name.now h h2 c.args.budget (Ok (c.in-Ok.program, [])) c.in-Ok.ensures) (c.run_program.ensures (g.H.Host.state c.read_text.new.host))
+    (to_execute c.args.name.now h h2 c.args.budget (Ok (c.in-Ok.program, [])) c.in-Ok.ensures.made) (c.run_program.ensures.ran (g.H.Host.state c.read_text.new.host))

@@ -5,20 +5,20 @@ use Rattle.aplc_cli.specs.Call.{Outside}
 use Rattle.aplc_cli.proofs.Ended.{unmade, to_run, ran}
 use Rattle.aplc_cli.proofs.top.run_file.Goals as goal
 
-pub returns-in-Err : goal.returns-in-Err
-returns-in-Err g c =
+pub returns-in-Err-clause-works : goal.returns-in-Err-clause-works
+returns-in-Err-clause-works g c =
     let h = g.H.Host.state c.args.host.now in
     let h2 = g.H.Host.state c.make.new.host in
     let i = g.S.Source.state c.args.input.now in
     let o = g.O.Sink.state c.args.out.now in
-    unmade c.args.name.now (action.Run c.args.budget) h i o h2 c.in-Err.stop (to_run c.args.name.now h h2 c.args.budget (Err c.in-Err.stop) c.in-Err.ensures)
+    unmade c.args.name.now (action.Run c.args.budget) h i o h2 c.in-Err.stop (to_run c.args.name.now h h2 c.args.budget (Err c.in-Err.stop) c.in-Err.ensures.made)
 
-pub returns : goal.returns
-returns g c =
+pub returns-clause-works : goal.returns-clause-works
+returns-clause-works g c =
     let h = g.H.Host.state c.args.host.now in
     let h2 = g.H.Host.state c.make.new.host in
     let i = g.S.Source.state c.args.input.now in
     let o = g.O.Sink.state c.args.out.now in
     let new : Outside = record { host = g.H.Host.state c.run_text.new.host; input = g.S.Source.state c.run_text.new.input; out = g.O.Sink.state c.run_text.new.out } in
     ran c.args.name.now (action.Run c.args.budget) h i o c.args.budget refl (c.in-Ok.made.program, c.in-Ok.made.text.items) h2 new (result_map told c.run_text.result)
-    (to_run c.args.name.now h h2 c.args.budget (Ok (c.in-Ok.made.program, c.in-Ok.made.text.items)) c.in-Ok.ensures) c.run_text.ensures
+    (to_run c.args.name.now h h2 c.args.budget (Ok (c.in-Ok.made.program, c.in-Ok.made.text.items)) c.in-Ok.ensures.made) c.run_text.ensures.ran

@@ -25,7 +25,7 @@ use Rattle.aplc_cli.specs.Call.{Sent, sent_for, steps_for, shown_for, came_for, 
 is_read : (r : Result Came Stop) → status_of r ≡ status.ReadFault → r ≡ Err stop.ReadFault
 is_read (Ok came.Compiled) is = cc
 is_read (Ok came.Ended) is = cc
-is_read (Ok (came.Faulted k f l)) is = cc
+is_read (Ok (came.Faulted k ps)) is = cc
 is_read (Ok came.Spent) is = cc
 is_read (Ok (came.Stuck c n)) is = cc
 is_read (Err stop.Usage) is = cc
@@ -37,7 +37,7 @@ is_read (Err stop.Memory) is = cc
 is_write : (r : Result Came Stop) → status_of r ≡ status.WriteFault → r ≡ Err stop.WriteFault
 is_write (Ok came.Compiled) is = cc
 is_write (Ok came.Ended) is = cc
-is_write (Ok (came.Faulted k f l)) is = cc
+is_write (Ok (came.Faulted k ps)) is = cc
 is_write (Ok came.Spent) is = cc
 is_write (Ok (came.Stuck c n)) is = cc
 is_write (Err stop.Usage) is = cc
@@ -49,7 +49,7 @@ is_write (Err stop.Memory) is = cc
 is_usage : (r : Result Came Stop) → status_of r ≡ status.Usage → r ≡ Err stop.Usage
 is_usage (Ok came.Compiled) is = cc
 is_usage (Ok came.Ended) is = cc
-is_usage (Ok (came.Faulted k f l)) is = cc
+is_usage (Ok (came.Faulted k ps)) is = cc
 is_usage (Ok came.Spent) is = cc
 is_usage (Ok (came.Stuck c n)) is = cc
 is_usage (Err stop.Usage) is = refl
@@ -61,7 +61,7 @@ is_usage (Err stop.Memory) is = cc
 is_refused : (r : Result Came Stop) → status_of r ≡ status.Refused → (x : Refusal) × (r ≡ Err (stop.Refused x))
 is_refused (Ok came.Compiled) is = cc
 is_refused (Ok came.Ended) is = cc
-is_refused (Ok (came.Faulted k f l)) is = cc
+is_refused (Ok (came.Faulted k ps)) is = cc
 is_refused (Ok came.Spent) is = cc
 is_refused (Ok (came.Stuck c n)) is = cc
 is_refused (Err stop.Usage) is = cc
@@ -84,16 +84,16 @@ is_came (Err stop.WriteFault) is = absurd is
 is_came (Err stop.Memory) is = absurd is
 
 no_compiled : (s : Standing) → came.Compiled ≡ came_of s → ⊥
-no_compiled (standing.Ended o) is = cc
-no_compiled (standing.Faulted o k f l) is = cc
-no_compiled (standing.Going o) is = cc
-no_compiled (standing.Stuck o c n) is = cc
+no_compiled (standing.Ended o ms) is = cc
+no_compiled (standing.Faulted o ms k ps) is = cc
+no_compiled (standing.Going o ms) is = cc
+no_compiled (standing.Stuck o ms c n) is = cc
 
 stuck_status : (s : Standing) → status_of (Ok (came_of s)) ≡ status.Stuck → IsStuck s
-stuck_status (standing.Ended o) is = cc
-stuck_status (standing.Faulted o k f l) is = cc
-stuck_status (standing.Going o) is = cc
-stuck_status (standing.Stuck o c n) is = tt
+stuck_status (standing.Ended o ms) is = cc
+stuck_status (standing.Faulted o ms k ps) is = cc
+stuck_status (standing.Going o ms) is = cc
+stuck_status (standing.Stuck o ms c n) is = tt
 
 module _ (e e2 : SinkState) (s : Status) where
   -- the line was written whole, or the status is WriteFault
@@ -103,7 +103,7 @@ module _ (e e2 : SinkState) (s : Status) where
   reported : (r : Result Came Stop) → Reports r e e2 s → Whole r ⊎ (s ≡ status.WriteFault)
   reported (Ok came.Compiled) t = ⊎_elim (λ w. inl w) (λ w. inr w.0) t
   reported (Ok came.Ended) t = ⊎_elim (λ w. inl w) (λ w. inr w.0) t
-  reported (Ok (came.Faulted k f l)) t = ⊎_elim (λ w. inl w) (λ w. inr w.0) t
+  reported (Ok (came.Faulted k ps)) t = ⊎_elim (λ w. inl w) (λ w. inr w.0) t
   reported (Ok came.Spent) t = ⊎_elim (λ w. inl w) (λ w. inr w.0) t
   reported (Ok (came.Stuck c n)) t = ⊎_elim (λ w. inl w) (λ w. inr w.0) t
   reported (Err stop.Usage) t = ⊎_elim (λ w. inl w) (λ w. inr w.0) t
@@ -126,7 +126,7 @@ module _ (e e2 : SinkState) (s : Status) where
   line_failed : (r : Result Came Stop) → Reports r e e2 s → Whole r ⊎ ((r ≡ Err stop.WriteFault) ⊎ Rose e.faults e2.faults)
   line_failed (Ok came.Compiled) t = ⊎_elim (λ w. inl w) (λ w. inr (inr (after_part _ _ w.1.0 w.1.1 w.1.2))) t
   line_failed (Ok came.Ended) t = ⊎_elim (λ w. inl w) (λ w. inr (inr (after_part _ _ w.1.0 w.1.1 w.1.2))) t
-  line_failed (Ok (came.Faulted k f l)) t = ⊎_elim (λ w. inl w) (λ w. inr (inr (after_part _ _ w.1.0 w.1.1 w.1.2))) t
+  line_failed (Ok (came.Faulted k ps)) t = ⊎_elim (λ w. inl w) (λ w. inr (inr (after_part _ _ w.1.0 w.1.1 w.1.2))) t
   line_failed (Ok came.Spent) t = ⊎_elim (λ w. inl w) (λ w. inr (inr (after_part _ _ w.1.0 w.1.1 w.1.2))) t
   line_failed (Ok (came.Stuck c n)) t = ⊎_elim (λ w. inl w) (λ w. inr (inr (after_part _ _ w.1.0 w.1.1 w.1.2))) t
   line_failed (Err stop.Usage) t = ⊎_elim (λ w. inl w) (λ w. inr (inr (after_part _ _ w.1.0 w.1.1 w.1.2))) t

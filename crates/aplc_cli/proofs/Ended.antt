@@ -96,10 +96,10 @@ begun_cut h h2 h3 text run e p =
       rose = subst (λ n. Rattle.aplc_io.specs.Outside.Rose n h3.text_faults) faults p.rose;
       later = subst (λ n. n ≤ h3.text_faults) faults p.later;
       same =
-        p.same
-        ∙ ap (λ (t : Option (List ℕ)). record h2 { text = t; put = h3.put; text_faults = h3.text_faults }) p.text
-        ∙ ap (λ (n : ℕ). record (text_with h2 (take p.count text)) { put = n; text_faults = h3.text_faults }) (p.put ∙ ap (more h2.put) (sym taken))
-        ∙ ap {A = HostState} (λ (x : HostState). record x { text_faults = h3.text_faults }) whole;
+          p.same
+          ∙ ap (λ (t : Option (List ℕ)). record h2 { text = t; put = h3.put; text_faults = h3.text_faults }) p.text
+          ∙ ap (λ (n : ℕ). record (text_with h2 (take p.count text)) { put = n; text_faults = h3.text_faults }) (p.put ∙ ap (more h2.put) (sym taken))
+          ∙ ap {A = HostState} (λ (x : HostState). record x { text_faults = h3.text_faults }) whole;
     }
 
 pub not_begun : (h h2 : HostState) (sent : Sent) → TextNotBegun h h2 → PartSent sent h h2

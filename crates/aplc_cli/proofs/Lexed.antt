@@ -152,11 +152,13 @@ module _ (text : List ℕ) (no_tokens : (ts : List Token) → AreTokens text ts 
     where
       whole : (m : ℕ) → length text ≤ m → IsUtf8 (take m text) → ⊥
       whole m le u = let a : is_utf8 text ≡ true = is_utf8-from_IsUtf8 text (subst IsUtf8 (take_all m text le) u) in cc
+
       by_place : (n : ℕ) → n < length text → IsUtf8 (take n text) → ((m : ℕ) → n < m → m ≤ length text → IsUtf8 (take m text) → ⊥) → ⊥
       by_place n l u last = no_cause (refusal 1 n) (inl (refl, record { short = l; front = u; longest = λ m lt v. further m lt v }))
         where
           further : (m : ℕ) → n < m → IsUtf8 (take m text) → ⊥
           further m lt v = elim (order m (length text)) as (λ x. ⊥) [ inl b ↦ last m lt (omega arith) v | inr b ↦ whole m b v ]
+
       longest : (n : ℕ) → n ≤ length text → IsUtf8 (take n text) → ((m : ℕ) → n < m → m ≤ length text → IsUtf8 (take m text) → ⊥) → ⊥
       longest n le u last = elim (order n (length text)) as (λ x. ⊥) [ inl l ↦ by_place n l u last | inr ge ↦ whole n ge u ]
 

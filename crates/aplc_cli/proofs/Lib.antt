@@ -12,3 +12,4 @@ pub mod Unbuilt
 mod RunEnds
 pub mod Verdicts
 mod Worded
+mod Callers

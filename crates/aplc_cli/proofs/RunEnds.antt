@@ -16,7 +16,7 @@ use Rattle.aplc_crun.specs.declared.live.Verdict.{Verdict}
 use Rattle.aplc_crun.specs.declared.live.Verdict.TheVariants as verdict
 use Rattle.aplc_crun.specs.declared.machine.Machine.{Machine}
 use Rattle.aplc_crun.specs.declared.stop.RunStop.TheVariants as run_stop
-use Rattle.aplc_crun.specs.Running.{Stands, Comes, next_of, place_name, place_line}
+use Rattle.aplc_crun.specs.Running.{Stands, Comes, next_of, places_of}
 use Rattle.aplc_crun.specs.Ran.{Went, Ran, Reads, MayTakeMemory, IsDue}
 use Rattle.aplc_cprof.specs.declared.syntax.CStmt.{CStmt}
 use Rattle.aplc_cli.specs.declared.status.Stop.TheVariants as stop
@@ -49,11 +49,8 @@ never false e t = cc
 
 -- ---- The place where a machine stands
 
-name_placed : (p : CProgram) (n : Machine) (given more : List ℕ) (st : State) → Stands p n given more st → st.name ≡ place_name n
-name_placed p n given more st s = ap (λ (x : State). x.name) s.state
-
-line_placed : (p : CProgram) (n : Machine) (given more : List ℕ) (st : State) → Stands p n given more st → st.line ≡ place_line n
-line_placed p n given more st s = ap (λ (x : State). x.line) s.state
+placed : (p : CProgram) (n : Machine) (given more : List ℕ) (st : State) → Stands p n given more st → st.places ≡ places_of n
+placed p n given more st s = ap (λ (x : State). x.places) s.state
 
 -- ---- A part of what is pending is a part of all
 
@@ -146,8 +143,8 @@ module _ (p : CProgram) (m n : Machine) (old : Streams) (most : ℕ) (stands : (
   pub ended : (left : SourceState) (filled : SinkState) → Ran m old.input old.out most n left filled (Ok tt) → Carried p most old (record { input = left; out = filled }) (Ok (told (ending.Ran end.Ended n)))
   ended left filled w =
       let s = (comes left filled [] verdict.Ended w).state in
-      came_to left filled verdict.Ended w came.Ended (standing.Ended s.output)
-      (over_at p (given left filled [] verdict.Ended w) (taken left filled [] verdict.Ended w) most (standing.Ended s.output) (all_taken left filled [] verdict.Ended w) (stood left filled [] verdict.Ended w) (λ h. h))
+      came_to left filled verdict.Ended w came.Ended (standing.Ended s.output s.marks)
+      (over_at p (given left filled [] verdict.Ended w) (taken left filled [] verdict.Ended w) most (standing.Ended s.output s.marks) (all_taken left filled [] verdict.Ended w) (stood left filled [] verdict.Ended w) (λ h. h))
       refl refl
 
   pub faulted : (k : FaultKind) (left : SourceState) (filled : SinkState) → Ran m old.input old.out most n left filled (Err (run_stop.Fault k)) → Carried p most old (record { input = left; out = filled }) (Ok (told (ending.Ran (end.Faulted k) n)))
@@ -155,19 +152,18 @@ module _ (p : CProgram) (m n : Machine) (old : Streams) (most : ℕ) (stands : (
       let v : Verdict = verdict.Faulted k in
       let c = comes left filled [] v w in
       let s = c.state in
-      let over : Standing = standing.Faulted s.output k s.name s.line in
+      let over : Standing = standing.Faulted s.output s.marks k s.places in
       came_to left filled v w (told (ending.Ran (end.Faulted k) n)) over
       (over_at p (given left filled [] v w) (taken left filled [] v w) most over (all_taken left filled [] v w) (stood left filled [] v w) (λ h. h))
       refl
-      (sym (ap (λ l. came.Faulted k s.name l) (line_placed p n ([] ++ w.text) (still left.left) s c.stands)
-      ∙ ap (λ f. came.Faulted k f (place_line n)) (name_placed p n ([] ++ w.text) (still left.left) s c.stands)))
+      (sym (ap (came.Faulted k) (placed p n ([] ++ w.text) (still left.left) s c.stands)))
 
   pub spent : (left : SourceState) (filled : SinkState) → Ran m old.input old.out most n left filled (Err run_stop.Spent) → Carried p most old (record { input = left; out = filled }) (Ok (told (ending.Ran end.Spent n)))
   spent left filled r =
       let w = r.0 in
       let s = (comes left filled [] verdict.Going w).state in
       let all : most ≡ taken left filled [] verdict.Going w = (let e = r.1 in omega arith) in
-      came_to left filled verdict.Going w came.Spent (standing.Going s.output)
+      came_to left filled verdict.Going w came.Spent (standing.Going s.output s.marks)
       (ap (behaviour p (given left filled [] verdict.Going w)) all ∙ stood left filled [] verdict.Going w)
       refl refl
 
@@ -176,7 +172,7 @@ module _ (p : CProgram) (m n : Machine) (old : Streams) (most : ℕ) (stands : (
       let w = r.0 in
       let v : Verdict = verdict.Stuck c in
       let s = (comes left filled [] v w).state in
-      let over : Standing = standing.Stuck s.output c n.live.at in
+      let over : Standing = standing.Stuck s.output s.marks c n.live.at in
       came_to left filled v w (came.Stuck c k) over
       (over_at p (given left filled [] v w) (taken left filled [] v w) most over (all_taken left filled [] v w) (stood left filled [] v w) (λ h. h))
       refl

@@ -221,6 +221,7 @@ module _ (text : List ℕ) (ts : List Token) (clean : (r : Refusal) → Stands t
       by_words : declaration ns r ≡ None → (ws : List Word) → r.words ≡ ws → ⊥
       by_words e [] i = never nothing (ap (λ (us : List Word). declaration ns (record r { words = us })) i)
       by_words e (x ∷ ws) i = clean (refusal bad_declaration x.place) (undeclared c e (x, ws, i, refl))
+
       by_said : (o : Option Declaration) → declaration ns r ≡ o → ⊥
       by_said None e = by_words e r.words refl
       by_said (Some d) e = never d e

@@ -1,13 +1,15 @@
 -- What the work of a call comes to, what is said of it on err, and the status.
-use Rattle.std.specs.Prelude.{ℕ, ℤ, nat_eq, nat_lt, ◌||◌, if◌then◌else◌, List, [], ◌++◌, Option, None, Some, unwrap_or, Result, Ok, Err, codes}
+use Rattle.std.specs.Prelude.{ℕ, nat_eq, nat_lt, ◌||◌, if◌then◌else◌, List, [], ◌++◌, Option, None, Some, unwrap_or, Result, Ok, Err, codes}
 use Rattle.std.specs.Fmt.{decimal, signed_decimal}
+use Rattle.std.specs.List.{flat_map}
 use Rattle.aplc_scalar.specs.declared.kind.FaultKind.{FaultKind}
 use Rattle.aplc_scalar.specs.declared.kind.FaultKind.TheVariants as fault
 use Rattle.aplc_cprof.specs.declared.syntax.StuckCause.{StuckCause}
 use Rattle.aplc_cprof.specs.declared.syntax.StuckCause.TheVariants as cause
 use Rattle.aplc_cprof.specs.Behaviour.{Standing}
 use Rattle.aplc_cprof.specs.Behaviour as standing
-use Rattle.aplc_crun.specs.Running.{place_name, place_line}
+use Rattle.aplc_cprof.specs.Machine.{Place, Places}
+use Rattle.aplc_crun.specs.Running.{places_of}
 use Rattle.aplc_lex.specs.declared.token.Refusal.{Refusal}
 use Rattle.aplc_cli.specs.declared.status.Ending.{Ending}
 use Rattle.aplc_cli.specs.declared.status.Ending.TheVariants as ending
@@ -18,25 +20,25 @@ use Rattle.aplc_cli.specs.declared.status.Status.{Status}
 use Rattle.aplc_cli.specs.declared.status.Status.TheVariants as status
 
 -- What the work comes to where nothing outside fails: the text was handed over, or it was carried out and ended,
--- faulted with a kind at a function and a line, spent its steps, or got stuck.
+-- faulted with a kind at its places, spent its steps, or got stuck.
 pub data Came : Type 0 where
   Compiled : Came
   Ended : Came
-  Faulted : FaultKind → List ℕ → ℤ → Came
+  Faulted : FaultKind → Places → Came
   Spent : Came
   Stuck : StuckCause → ℕ → Came
 
 abbrev pub came_of : Standing → Came
-came_of (standing.Ended o) = Ended
-came_of (standing.Faulted o k f l) = Faulted k f l
-came_of (standing.Going o) = Spent
-came_of (standing.Stuck o c n) = Stuck c n
+came_of (standing.Ended o ms) = Ended
+came_of (standing.Faulted o ms k ps) = Faulted k ps
+came_of (standing.Going o ms) = Spent
+came_of (standing.Stuck o ms c n) = Stuck c n
 
--- the same of what the code keeps: the place of a fault is the machine's
+-- the same of what the code keeps: the places of a fault are the machine's
 abbrev pub told : Ending → Came
 told ending.Compiled = Compiled
 told (ending.Ran end.Ended m) = Ended
-told (ending.Ran (end.Faulted k) m) = Faulted k (place_name m) (place_line m)
+told (ending.Ran (end.Faulted k) m) = Faulted k (places_of m)
 told (ending.Ran end.Spent m) = Spent
 told (ending.Ran (end.Stuck c n) m) = Stuck c n
 
@@ -101,8 +103,19 @@ usage_line =
 abbrev pub refusal_line : Refusal → List ℕ
 refusal_line r = codes "REFUSED " ++ (decimal r.number ++ (codes " " ++ (unwrap_or (refusal_word r.number) [] ++ (codes " AT " ++ (decimal r.place ++ codes "\n")))))
 
-abbrev pub fault_line : FaultKind → List ℕ → ℤ → List ℕ
-fault_line k name l = fault_word k ++ (codes " ERROR " ++ (name ++ (codes "[" ++ (signed_decimal l ++ codes "]\n"))))
+-- a place, up to the end of its line
+abbrev pub place_end : Place → List ℕ
+place_end p = p.name ++ (codes "[" ++ (signed_decimal p.line ++ codes "]\n"))
+
+abbrev pub fault_line : FaultKind → Place → List ℕ
+fault_line k p = fault_word k ++ (codes " ERROR " ++ place_end p)
+
+abbrev pub caller_line : Place → List ℕ
+caller_line p = codes "FROM " ++ place_end p
+
+-- where the fault came, and then each caller, the innermost first
+abbrev pub fault_lines : FaultKind → Places → List ℕ
+fault_lines k ps = fault_line k ps.here ++ flat_map caller_line ps.behind
 
 abbrev pub stuck_line : StuckCause → ℕ → List ℕ
 stuck_line c n = codes "STUCK " ++ (cause_word c ++ (codes " AT " ++ (decimal n ++ codes "\n")))
@@ -110,7 +123,7 @@ stuck_line c n = codes "STUCK " ++ (cause_word c ++ (codes " AT " ++ (decimal n 
 abbrev pub line : Result Came Stop → List ℕ
 line (Ok Compiled) = []
 line (Ok Ended) = []
-line (Ok (Faulted k name l)) = fault_line k name l
+line (Ok (Faulted k ps)) = fault_lines k ps
 line (Ok Spent) = codes "STEP LIMIT\n"
 line (Ok (Stuck c n)) = stuck_line c n
 line (Err stop.Usage) = usage_line
@@ -124,7 +137,7 @@ line (Err stop.Memory) = codes "NO MEMORY\n"
 abbrev pub status_of : Result Came Stop → Status
 status_of (Ok Compiled) = status.Done
 status_of (Ok Ended) = status.Done
-status_of (Ok (Faulted k name l)) = status.Faulted
+status_of (Ok (Faulted k ps)) = status.Faulted
 status_of (Ok Spent) = status.Spent
 status_of (Ok (Stuck c n)) = status.Stuck
 status_of (Err stop.Usage) = status.Usage

@@ -10,8 +10,8 @@ ghost use Rattle.aplc_cli.specs.Came.{code_of};
 ghost use Rattle.aplc_cli.specs.Call.{outside, no_words, Answers, IsWordless, AtMostOnce};
 ghost use Rattle.aplc_cli.specs.declared.status.Stop.TheVariants.{Memory};
 
-use crate::report::report;
 use crate::Status;
+use crate::report::report;
 use crate::status::Stop;
 use crate::top::aplc;
 use aplc_io::{Host, Sink, Source};

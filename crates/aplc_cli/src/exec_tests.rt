@@ -1,5 +1,5 @@
 //! Calls of `--exec` over objects in memory.
-//! The expected bytes come from the rules of the C profile; its preamble has 3,155 bytes.
+//! The expected bytes come from the rules of the C profile; its preamble has 3,457 bytes.
 
 use super::*;
 use aplc_cprof::preamble_bytes;
@@ -82,6 +82,13 @@ fn executes(rt: &impl Abort, alloc: Global, lines: &[u8], answer: &Answer<'_>) -
 const ROW: &[u8] =
     b"int64_t v0;\nat(\"MAIN\", 1);\nv0 = 4LL;\nv0 = mul(3LL, v0);\nv0 = add(2LL, v0);\nput_num(v0, 0LL);\nput_char(10LL);\n";
 
+// As many places as there may be.
+const ALL_ENTERED: &[u8] =
+    b"int64_t v0;\nv0 = 0LL;\nwhile ((v0 < 4095LL)) {\nenter();\nv0 = (v0 + 1LL);\n}\n";
+
+const INSIDE: &[u8] =
+    b"at(\"MAIN\", 3);\nenter();\nat(\"F\", 1);\nenter();\nat(\"G\", 2);\nfault(0);\n";
+
 #[test]
 fn executes_texts(rt: HostRuntime) -> Result<(), Fail> {
     let done = Answer {
@@ -102,7 +109,14 @@ fn executes_texts(rt: HostRuntime) -> Result<(), Fail> {
         out: b"",
         err: b"LENGTH ERROR [0]\n",
     };
-    executes(&rt, rt.alloc(), b"fault(2);\n", &length)
+    executes(&rt, rt.alloc(), b"fault(2);\n", &length)?;
+    let all_entered = Answer { out: b"", ..done };
+    executes(&rt, rt.alloc(), ALL_ENTERED, &all_entered)?;
+    let inside = Answer {
+        err: b"DOMAIN ERROR G[2]\nFROM F[1]\nFROM MAIN[3]\n",
+        ..length
+    };
+    executes(&rt, rt.alloc(), INSIDE, &inside)
 }
 
 // What is there in the text before its functions, its lines, and the input; out and the line on err.
@@ -209,7 +223,7 @@ fn takes_long_lines(rt: HostRuntime) -> Result<(), Fail> {
 
 #[test]
 fn gets_stuck(rt: HostRuntime) -> Result<(), Fail> {
-    let cases: [(&[u8], &[u8]); 8] = [
+    let cases: [(&[u8], &[u8]); 10] = [
         (
             b"int64_t *b0 = 0;\nb0 = cells(3LL);\nb0[3LL] = 1LL;\n",
             b"STUCK OUTSIDE AT 2\n",
@@ -233,6 +247,11 @@ fn gets_stuck(rt: HostRuntime) -> Result<(), Fail> {
             b"STUCK RANGE AT 1\n",
         ),
         (b"put_char(55296LL);\n", b"STUCK RANGE AT 1\n"),
+        (b"leave();\n", b"STUCK OUTSIDE AT 1\n"),
+        (
+            b"int64_t v0;\nv0 = 0LL;\nwhile ((v0 < 4096LL)) {\nenter();\nv0 = (v0 + 1LL);\n}\n",
+            b"STUCK OUTSIDE AT 3\n",
+        ),
     ];
     for (lines, err) in cases {
         let stuck = Answer {
@@ -268,26 +287,34 @@ fn refuses_texts(rt: HostRuntime) -> Result<(), Fail> {
     let alloc = rt.alloc();
     execute(&rt, alloc, &[], b"x".to_vec(alloc)?, &refused)?;
     let mut cut = preamble_bytes().to_vec(alloc)?;
-    cut.truncate(3154);
+    cut.truncate(3456);
     let preamble = Answer {
-        err: b"REFUSED 30 PREAMBLE AT 3154\n",
+        err: b"REFUSED 30 PREAMBLE AT 3456\n",
         ..refused
     };
     execute(&rt, alloc, &[], cut, &preamble)?;
+    let mut older = preamble_bytes().to_vec(alloc)?;
+    older.truncate(228);
+    older.extend_from_slice(b" = \"\";\n")?;
+    let one_place = Answer {
+        err: b"REFUSED 30 PREAMBLE AT 228\n",
+        ..refused
+    };
+    execute(&rt, alloc, &[], older, &one_place)?;
     let name = Answer {
-        err: b"REFUSED 33 NAME AT 3200\n",
+        err: b"REFUSED 33 NAME AT 3502\n",
         ..refused
     };
     executes(&rt, alloc, b"v0 = 1LL;\n", &name)?;
     let blanks = Answer {
-        err: b"REFUSED 32 FORM AT 3222\n",
+        err: b"REFUSED 32 FORM AT 3524\n",
         ..refused
     };
     executes(&rt, alloc, b"int64_t v0;\nv0 = (1LL  + 2LL);\n", &blanks)?;
     let mut more = text_with(alloc, ROW)?;
     more.push(b'x')?;
     let behind = Answer {
-        err: b"REFUSED 32 FORM AT 3346\n",
+        err: b"REFUSED 32 FORM AT 3648\n",
         ..refused
     };
     execute(&rt, alloc, &[], more, &behind)?;
@@ -296,7 +323,7 @@ fn refuses_texts(rt: HostRuntime) -> Result<(), Fail> {
         deep.extend_from_slice(b"while (1LL) {\n")?;
     }
     let nesting = Answer {
-        err: b"REFUSED 34 NESTING AT 6784\n",
+        err: b"REFUSED 34 NESTING AT 7086\n",
         ..refused
     };
     executes(&rt, alloc, deep.as_slice(), &nesting)?;

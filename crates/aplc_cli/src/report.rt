@@ -1,10 +1,12 @@
 //! The line on err for what a call came to, and the status.
 //! It must not know how the work was done.
 
-ghost use Rattle.std.specs.Prelude.{◌≡◌, ◌++◌, codes, Ok, Err, option_map};
-ghost use Rattle.aplc_cli.specs.Came.{line, status_of, refusal_line, token_word, program_word, name_word, text_word, refusal_word, fault_word, cause_word, fault_line, stuck_line, told, result_map};
+ghost use Rattle.std.specs.Prelude.{◌≡◌, ◌<◌, ◌++◌, length, get_or, codes, Ok, Err, option_map};
+ghost use Rattle.std.specs.List.{flat_map};
+ghost use Rattle.aplc_cli.specs.Came.{line, status_of, refusal_line, token_word, program_word, name_word, text_word, refusal_word, fault_word, cause_word, fault_line, caller_line, fault_lines, stuck_line, told, result_map};
 ghost use Rattle.aplc_cli.specs.Call.{Reports, Wrote};
-ghost use Rattle.aplc_crun.specs.Running.{place_name, place_line};
+ghost use Rattle.aplc_cprof.specs.Machine.{empty_place};
+ghost use Rattle.aplc_crun.specs.Running.{places_of};
 
 use crate::status::{Ending, RunEnd, Stop};
 use crate::{Refusal, Status};
@@ -119,37 +121,71 @@ fn write_refusal<E: Sink>(err: &mut E, refusal: Refusal) -> Result<(), Failed>
     let word = refusal_word(refusal.number).unwrap_or(&[]);
     write_pieces(
         err,
-        &[
-            b"REFUSED ",
-            number,
-            b" ",
-            word,
-            b" AT ",
-            place,
-            b"\n",
-        ],
+        &[b"REFUSED ", number, b" ", word, b" AT ", place, b"\n"],
     )
 }
 
-// The line of a fault from its parts: the word of the kind, the function and the line.
-fn write_parts<'a, E: Sink>(
+// The line of a place from its parts: a word, what stands behind it, the function and the line.
+fn write_place<'a, E: Sink>(
     err: &mut E,
     word: &'a [u8],
+    sign: &'a [u8],
     name: &'a [u8],
     line: &'a [u8],
 ) -> Result<(), Failed>
-    ensures { Wrote (word.now ++ (codes " ERROR " ++ (name.now ++ (codes "[" ++ (line.now ++ codes "]\n"))))) (E.state err.old) (E.state err.new) result }
+    ensures { Wrote (word.now ++ (sign.now ++ (name.now ++ (codes "[" ++ (line.now ++ codes "]\n"))))) (E.state err.old) (E.state err.new) result }
 {
-    write_pieces(err, &[word, b" ERROR ", name, b"[", line, b"]\n"])
+    write_pieces(err, &[word, sign, name, b"[", line, b"]\n"])
 }
 
 // The kind of a fault, and the place where the machine stands.
-fn write_fault<E: Sink>(err: &mut E, kind: FaultKind, machine: &Machine) -> Result<(), Failed>
-    ensures { Wrote (fault_line kind (place_name machine.now) (place_line machine.now)) (E.state err.old) (E.state err.new) result }
+fn write_here<E: Sink>(err: &mut E, kind: FaultKind, machine: &Machine) -> Result<(), Failed>
+    ensures { Wrote (fault_line kind (places_of machine.now).here) (E.state err.old) (E.state err.new) result }
 {
     let mut buffer = Buffer::new();
     let line = buffer.format(machine.place_line()).as_bytes();
-    write_parts(err, fault_word(kind), machine.place_name(), line)
+    write_place(
+        err,
+        fault_word(kind),
+        b" ERROR ",
+        machine.place_name(),
+        line,
+    )
+}
+
+// The caller of this number, counted from 0 for the innermost one.
+fn write_caller<E: Sink>(err: &mut E, machine: &Machine, number: usize) -> Result<(), Failed>
+    requires { number < length (places_of machine.now).behind }
+    ensures { Wrote (caller_line (get_or (places_of machine.now).behind number empty_place)) (E.state err.old) (E.state err.new) result }
+{
+    let mut buffer = Buffer::new();
+    let line = buffer.format(machine.caller_line(number + 1)).as_bytes();
+    write_place(err, b"FROM", b" ", machine.caller_name(number + 1), line)
+}
+
+#[tactic(auto, using(crate::proofs::Callers::callers))]
+fn write_callers<E: Sink>(err: &mut E, machine: &Machine) -> Result<(), Failed>
+    ensures { Wrote (flat_map caller_line (places_of machine.now).behind) (E.state err.old) (E.state err.new) result }
+{
+    let callers = machine.places() - 1;
+    for number in 0..callers {
+        match write_caller(err, machine, number) {
+            Ok(()) => {}
+            Err(Failed) => return Err(Failed),
+        }
+    }
+    Ok(())
+}
+
+// The line of a fault, and a line for each caller.
+#[tactic(auto, using(crate::proofs::Callers::both_wrote))]
+fn write_fault<E: Sink>(err: &mut E, kind: FaultKind, machine: &Machine) -> Result<(), Failed>
+    ensures { Wrote (fault_lines kind (places_of machine.now)) (E.state err.old) (E.state err.new) result }
+{
+    match write_here(err, kind, machine) {
+        Ok(()) => write_callers(err, machine),
+        Err(Failed) => Err(Failed),
+    }
 }
 
 fn write_stuck<E: Sink>(err: &mut E, cause: StuckCause, statement: u64) -> Result<(), Failed>

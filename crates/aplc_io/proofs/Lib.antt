@@ -1,5 +1,5 @@
 mod Fronts
 pub mod Gives
 mod Named
-mod Pieces
+pub mod Pieces
 pub mod Sent

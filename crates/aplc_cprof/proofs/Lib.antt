@@ -13,3 +13,13 @@ pub mod Values
 pub mod Runs
 pub mod Same
 pub mod Paths
+pub mod Rules
+pub mod Loops
+pub mod Counted
+pub mod Wider
+pub mod Stores
+pub mod Singles
+pub mod Functions
+pub mod Matching
+pub mod Kept
+pub mod Survives

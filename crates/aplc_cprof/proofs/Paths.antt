@@ -35,7 +35,7 @@ abbrev pub other_part : Option (List CStmt) → List CStmt
 other_part None = []
 other_part (Some b) = b
 
-numbered_other : (n : ℕ) (o : Option (List CStmt)) → numbered n (other_part o) ≡ numbered_if n o
+pub numbered_other : (n : ℕ) (o : Option (List CStmt)) → numbered n (other_part o) ≡ numbered_if n o
 numbered_other n None = refl
 numbered_other n (Some b) = refl
 
@@ -55,7 +55,7 @@ null_todo : (q : Option Buf) (s : State) (todo : Todo) → buf_or_null q (record
 null_todo None s todo = refl
 null_todo (Some q) s todo = named_todo q s todo
 
-read_todo : (x : Int) (s : State) (todo : Todo) → read_int x (record s { todo = todo }) ≡ read_int x s
+pub read_todo : (x : Int) (s : State) (todo : Todo) → read_int x (record s { todo = todo }) ≡ read_int x s
 read_todo (int.Local k) s todo = refl
 read_todo (int.Global k) s todo = refl
 
@@ -72,7 +72,7 @@ abbrev pub picked : ℤ → List Arm → List CStmt → List CStmt
 picked v [] d = d
 picked v (a ∷ arms) d = cond (int_eq v a.value) a.body (picked v arms d)
 
-chosen_is : (v : ℤ) (n : ℕ) (arms : List Arm) (d : List CStmt) → (m : ℕ) × (chosen v n arms d ≡ numbered m (picked v arms d))
+pub chosen_is : (v : ℤ) (n : ℕ) (arms : List Arm) (d : List CStmt) → (m : ℕ) × (chosen v n arms d ≡ numbered m (picked v arms d))
 chosen_is v n [] d = (n, refl)
 chosen_is v n (a ∷ arms) d = by_test (int_eq v a.value) (chosen_is v (n + total (map size a.body)) arms d)
   where

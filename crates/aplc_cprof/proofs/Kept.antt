@@ -1,6 +1,8 @@
 -- What was built is kept: so is it in itself, over one call after another, and by each call of a builder.
 -- It must not know what the statements mean.
 use Rattle.std.proofs.Common.{◌≡◌, ◌∙◌, ap, sym, refl, subst, ℕ, ◌+◌, ◌≤◌, List, [], ◌∷◌, ◌++◌, append_assoc, append-nil, arith}
+use Rattle.std.specs.Prelude.{Result, Ok, Err, OnOk, OnErr}
+use Rattle.std.specs.declared.alloc.AllocError.{AllocError}
 use Rattle.aplc_cprof.specs.declared.syntax.CStmt.{CStmt}
 use Rattle.aplc_cprof.specs.Blocks.{Blocks, open_blocks, Begin, IsKept}
 
@@ -77,13 +79,21 @@ kept_close a b d p is ints bufs =
       bufs = omega (arith, j, bufs);
     }
 
--- ---- By what a call leaves
+-- ---- By what a call of a builder leaves
 
 pub kept_is : (a b : Blocks) → b ≡ a → IsKept a b
 kept_is a b e = subst (λ (b : Blocks). IsKept a b) (sym e) (kept_same a)
 
-pub kept_stmt : (a b : Blocks) (s : CStmt) → b ≡ record a { inner = a.inner ++ s ∷ [] } → IsKept a b
-kept_stmt a b s e = subst (λ (b : Blocks). IsKept a b) (sym e) (kept_code a (s ∷ []))
+pub kept_int : (a b : Blocks) → b ≡ record a { ints = a.ints + 1 } → IsKept a b
+kept_int a b e = subst (λ (b : Blocks). IsKept a b) (sym e) (record { blocks = begin_same (open_blocks a); ints = omega arith; bufs = omega arith })
+
+pub kept_buf : (a b : Blocks) → b ≡ record a { bufs = a.bufs + 1 } → IsKept a b
+kept_buf a b e = subst (λ (b : Blocks). IsKept a b) (sym e) (record { blocks = begin_same (open_blocks a); ints = omega arith; bufs = omega arith })
+
+-- a push, done or not
+pub kept_pushed : (a : Blocks) (new : List CStmt) (s : CStmt) (r : Result (Unit {0}) AllocError) → OnOk r (new ≡ a.inner ++ s ∷ []) → OnErr r (new ≡ a.inner) → IsKept a (record a { inner = new })
+kept_pushed a new s (Ok x) ok err = subst (λ (l : List CStmt). IsKept a (record a { inner = l })) (sym ok) (kept_code a (s ∷ []))
+kept_pushed a new s (Err e) ok err = subst (λ (l : List CStmt). IsKept a (record a { inner = l })) (sym err) (kept_same a)
 
 pub kept_opened : (a b : Blocks) → b ≡ record a { outer = a.outer ++ a.inner ∷ []; inner = [] } → IsKept a b
 kept_opened a b e = subst (λ (b : Blocks). IsKept a b) (sym e) (kept_open a)

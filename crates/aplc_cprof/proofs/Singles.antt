@@ -1,6 +1,6 @@
 -- Rules of the statements that are no blocks: each comes to what follows it, or faults.
 -- They know no source, and count no steps.
-use Rattle.std.proofs.Common.{◌≡◌, ℕ, ◌<◌, ◌≤◌, List, [], ◌∷◌, ◌++◌, ℤ, Bool, true}
+use Rattle.std.proofs.Common.{◌≡◌, ℕ, ◌+◌, ◌<◌, ◌≤◌, List, [], ◌∷◌, ◌++◌, ℤ, Bool, true}
 use Rattle.std.specs.Prelude.{Option, Some, None, pos, ◌^◌, length, slice_get, slice_set, encode_utf8}
 use Rattle.aplc_scalar.specs.Input.{Line, Unread, input_line, number_line}
 use Rattle.aplc_scalar.specs.declared.kind.FaultKind.{FaultKind}
@@ -11,13 +11,9 @@ use Rattle.aplc_cprof.specs.declared.syntax.Checked.{Checked}
 use Rattle.aplc_cprof.specs.declared.syntax.StuckCause.{StuckCause}
 use Rattle.aplc_cprof.specs.declared.syntax.CExpr.{CExpr}
 use Rattle.aplc_cprof.specs.declared.syntax.CStmt.TheVariants as stmt
-use Rattle.aplc_cprof.specs.Machine.{named_buf, buf_or_null, set_buf, text_width, Todo, Code, State, Is, Bad, ranged, exact, set_int, with_line, padded_text, is_scalar, value, settled}
-use Rattle.aplc_cprof.proofs.Paths.{with_cells, does_Set, does_Check, does_Check_limit, does_PutNum, does_PutChar, does_At, does_Width, does_SetBuf, does_Cells, does_ReadText, does_ReadText_fault, does_ReadNums, does_ReadNums_fault, does_ReadCount, does_SetCell, does_Free_null, does_Free, does_Fault}
+use Rattle.aplc_cprof.specs.Machine.{Place, most_places, placed, deeper, named_buf, buf_or_null, set_buf, text_width, Todo, Code, State, Is, Bad, ranged, exact, set_int, with_line, padded_text, is_scalar, value, settled}
+use Rattle.aplc_cprof.proofs.Paths.{with_cells, does_Set, does_Check, does_Check_limit, does_PutNum, does_PutChar, does_At, does_Enter, does_Leave, does_Width, does_SetBuf, does_Cells, does_ReadText, does_ReadText_fault, does_ReadNums, does_ReadNums_fault, does_ReadCount, does_SetCell, does_Free_null, does_Free, does_Fault}
 use Rattle.aplc_cprof.proofs.Rules.{Runs, FaultsAt, runs_sure, runs_faults}
-
--- the state at a line of a function of the source
-abbrev pub located : List ℕ → ℤ → State → State
-located name l s = record s { name = name; line = l }
 
 -- P holds after a step that came to t, whatever is due then
 abbrev pub Onward : (State → Type 0) → State → Type 0
@@ -78,9 +74,17 @@ module _ (c : Code) (Q : State → Type 0) where
   pub runs_PutChar : (e : CExpr) (s : State) (Post Stop : State → Type 0) (k : ℕ) → value e c.tables s ≡ Is (pos k) → is_scalar k ≡ true → Onward Q (record s { output = s.output ++ encode_utf8 k }) → Onward Post (record s { output = s.output ++ encode_utf8 k }) → Runs c Q (stmt.PutChar e ∷ []) s Post Stop
   runs_PutChar e s Post Stop k is scalar q post = runs_sure c Q 1 (stmt.PutChar e ∷ []) s Post Stop (does_PutChar c Q e s Post (λ kind t. ⊥) k is scalar q post)
 
-  -- a mark tells the line of the source
-  pub runs_At : (name : List ℕ) (l : ℤ) (s : State) (Post Stop : State → Type 0) → Onward Q (located name l s) → Onward Post (located name l s) → Runs c Q (stmt.At name l ∷ []) s Post Stop
+  -- the innermost place is set, and leaves a mark
+  pub runs_At : (name : List ℕ) (l : ℤ) (s : State) (Post Stop : State → Type 0) → Onward Q (placed (record { name = name; line = l }) s) → Onward Post (placed (record { name = name; line = l }) s) → Runs c Q (stmt.At name l ∷ []) s Post Stop
   runs_At name l s Post Stop q post = runs_sure c Q 1 (stmt.At name l ∷ []) s Post Stop (does_At c Q name l s Post (λ kind t. ⊥) q post)
+
+  -- an empty place before the others, where fewer than 4,096 stand
+  pub runs_Enter : (s : State) (Post Stop : State → Type 0) → 1 + length s.places.behind < most_places → Onward Q (record s { places = deeper s.places }) → Onward Post (record s { places = deeper s.places }) → Runs c Q (stmt.Enter ∷ []) s Post Stop
+  runs_Enter s Post Stop lt q post = runs_sure c Q 1 (stmt.Enter ∷ []) s Post Stop (does_Enter c Q s Post (λ kind t. ⊥) lt q post)
+
+  -- the innermost place goes, where it is not the last
+  pub runs_Leave : (s : State) (Post Stop : State → Type 0) (p : Place) (ps : List Place) → s.places.behind ≡ p ∷ ps → Onward Q (record s { places = record { here = p; behind = ps } }) → Onward Post (record s { places = record { here = p; behind = ps } }) → Runs c Q (stmt.Leave ∷ []) s Post Stop
+  runs_Leave s Post Stop p ps is q post = runs_sure c Q 1 (stmt.Leave ∷ []) s Post Stop (does_Leave c Q s Post (λ kind t. ⊥) p ps is q post)
 
   -- a fault faults
   pub runs_Fault : (k : FaultKind) (s : State) (Post Stop : State → Type 0) → FaultStops c k s Stop → Runs c Q (stmt.Fault k ∷ []) s Post Stop

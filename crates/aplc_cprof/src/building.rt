@@ -2,7 +2,7 @@
 //! It must not know what the statements mean.
 
 ghost use Rattle.std.specs.Prelude.{◌≡◌, ◌+◌, ◌<◌, ◌^◌, [], ◌∷◌, ◌++◌, OnOk, IfOk, OnErr, length, None, Some};
-ghost use Rattle.aplc_cprof.specs.Blocks.{Blocks, no_blocks};
+ghost use Rattle.aplc_cprof.specs.Blocks.{Blocks, no_blocks, IsKept};
 
 use crate::{Buf, CFunction, CStmt, Int};
 use sqlite_items::Items;
@@ -48,7 +48,9 @@ impl Builder {
     pub fn fresh_int(&mut self) -> Result<Int, AllocError>
         ensures name { IfOk result (λ x. x ≡ Int.Local self.old.ints) }
         ensures given { OnOk result (self.new ≡ record self.old { ints = self.old.ints + 1 }) }
+        ensures below { OnOk result (self.old.ints < 4294967295) }
         ensures err { OnErr result (self.new ≡ self.old) }
+        ensures kept { IsKept self.old self.new }
     {
         if self.ints == u32::MAX {
             return Err(AllocError);
@@ -62,7 +64,9 @@ impl Builder {
     pub fn fresh_buf(&mut self) -> Result<Buf, AllocError>
         ensures name { IfOk result (λ p. p ≡ Buf.Local self.old.bufs) }
         ensures given { OnOk result (self.new ≡ record self.old { bufs = self.old.bufs + 1 }) }
+        ensures below { OnOk result (self.old.bufs < 4294967295) }
         ensures err { OnErr result (self.new ≡ self.old) }
+        ensures kept { IsKept self.old self.new }
     {
         if self.bufs == u32::MAX {
             return Err(AllocError);
@@ -76,6 +80,7 @@ impl Builder {
     pub fn emit(&mut self, s: CStmt) -> Result<(), AllocError>
         ensures ok { OnOk result (self.new ≡ record self.old { inner = self.old.inner ++ s ∷ [] }) }
         ensures err { OnErr result (self.new ≡ self.old) }
+        ensures kept { IsKept self.old self.new }
     {
         self.inner.push(s)
     }
@@ -84,6 +89,7 @@ impl Builder {
     pub fn open(&mut self) -> Result<(), AllocError>
         ensures ok { OnOk result (self.new ≡ record self.old { outer = self.old.outer ++ self.old.inner ∷ []; inner = [] }) }
         ensures err { OnErr result (self.new ≡ self.old) }
+        ensures kept { IsKept self.old self.new }
     {
         let around = self.outer.len();
         self.outer.push(Items::new(self.alloc))?;

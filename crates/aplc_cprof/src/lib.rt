@@ -14,7 +14,7 @@ mod syntax;
 mod tests;
 
 pub use building::Builder;
-pub use laws::one_program;
+pub use laws::{kept_calls, one_program};
 pub use list::List;
 pub use preamble::{preamble_bytes, tail_bytes};
 pub use printing::print;

@@ -23,3 +23,4 @@ pub mod Functions
 pub mod Matching
 pub mod Kept
 pub mod Survives
+mod RunExamples

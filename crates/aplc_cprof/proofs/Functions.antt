@@ -1,7 +1,7 @@
 -- Rules of functions: how a body is left, and what a call comes to.
 -- They know no source, and count no steps.
 use Rattle.std.proofs.Common.{◌≡◌, ℕ, zero, suc, ◌+◌, List, [], ◌∷◌, ◌++◌, ◌⊎◌, inl, inr, refl, sym, ap, ◌∙◌, append-nil}
-use Rattle.std.specs.Prelude.{Option, Some, None, map, slice_get}
+use Rattle.std.specs.Prelude.{Some, map, slice_get}
 use Rattle.aplc_cprof.specs.declared.syntax.CFunction.{CFunction}
 use Rattle.aplc_cprof.specs.declared.syntax.CProgram.{CProgram}
 use Rattle.aplc_cprof.specs.declared.syntax.CStmt.{CStmt}

@@ -9,7 +9,7 @@ use Rattle.aplc_cprof.specs.Machine.{numbered, Todo, Code, State, settled, settl
 use Rattle.aplc_cprof.specs.Machine as machine
 use Rattle.aplc_cprof.proofs.Paths.{called, returned, Path, run-path}
 use Rattle.aplc_cprof.proofs.Counted.{path_steps}
-use Rattle.aplc_cprof.proofs.Rules.{Comes, Runs, comes_now, comes_less, comes_runs, runs_less, runs_then, runs_none, runs_does, runs_faults, FaultsAt}
+use Rattle.aplc_cprof.proofs.Rules.{Comes, Runs, comes_now, comes_less, comes_runs, runs_less, runs_then, runs_none, runs_faults, FaultsAt}
 use Rattle.aplc_cprof.proofs.Paths.{does_Fault}
 use Rattle.aplc_cprof.proofs.Functions.{Leaves, Left, above, comes_body, runs_Call, runs_Return}
 

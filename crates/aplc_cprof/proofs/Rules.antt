@@ -1,6 +1,6 @@
 -- Rules of code with every way out: a piece comes to what follows it, or stops: at a fault, before leaving, or where it waits.
 -- They know no source, and count no steps: a state counts its own.
-use Rattle.std.proofs.Common.{◌≡◌, ℕ, suc, ◌+◌, ◌≤◌, List, [], ◌∷◌, ◌++◌, ◌⊎◌, inl, inr, refl, sym, ap, ◌∙◌, subst, arith, append_assoc, append-nil, ℤ, Bool, true, false, cond}
+use Rattle.std.proofs.Common.{◌≡◌, ℕ, suc, ◌+◌, List, [], ◌∷◌, ◌++◌, ◌⊎◌, inl, inr, refl, sym, ap, ◌∙◌, subst, append_assoc, ℤ, Bool, true, false, cond}
 use Rattle.std.specs.Prelude.{Option, map}
 use Rattle.aplc_scalar.specs.declared.kind.FaultKind.{FaultKind}
 use Rattle.aplc_cprof.specs.declared.syntax.Int.{Int}
@@ -10,7 +10,7 @@ use Rattle.aplc_cprof.specs.declared.syntax.CStmt.{CStmt}
 use Rattle.aplc_cprof.specs.declared.syntax.CStmt.TheVariants as stmt
 use Rattle.aplc_cprof.specs.Machine.{total, size, numbered, numbered_if, is_zero, chosen, read_int, Todo, Code, State, Is, Going, Faulted, value, settled, step}
 use Rattle.aplc_cprof.proofs.Values.{value_todo}
-use Rattle.aplc_cprof.proofs.Runs.{step_If, step_While, step_Switch}
+use Rattle.aplc_cprof.proofs.Runs.{step_If, step_Switch}
 use Rattle.aplc_cprof.proofs.Paths.{numbered-append, numbered_other, chosen_is, read_todo, other_part, picked, Path, path_then, Led, Does}
 
 -- nothing is asked of the states on the way

@@ -1,17 +1,12 @@
 -- Small runs, computed: how many steps they take.
 -- They stand on no rule: each is a run of the definition itself.
-use Rattle.std.proofs.Common.{◌≡◌, ℕ, List, [], ◌∷◌, refl, ℤ, pos}
-use Rattle.std.specs.Prelude.{None}
-use Rattle.aplc_scalar.specs.Scalar.{in_range}
+use Rattle.std.proofs.Common.{◌≡◌, ℕ, List, [], ◌∷◌, refl, pos}
 use Rattle.aplc_cprof.specs.declared.syntax.Op.TheVariants as op
-use Rattle.aplc_cprof.specs.declared.syntax.Arm.{Arm}
-use Rattle.aplc_cprof.specs.declared.syntax.CExpr.{CExpr}
 use Rattle.aplc_cprof.specs.declared.syntax.CExpr.TheVariants as expr
 use Rattle.aplc_cprof.specs.declared.syntax.CStmt.{CStmt}
 use Rattle.aplc_cprof.specs.declared.syntax.CStmt.TheVariants as stmt
-use Rattle.aplc_cprof.specs.declared.syntax.CFunction.{CFunction}
 use Rattle.aplc_cprof.specs.declared.syntax.CProgram.{CProgram}
-use Rattle.aplc_cprof.specs.Machine.{Next, Going, Ended, Faulted, Stuck, code_of, initial, step, run, ranged, divided}
+use Rattle.aplc_cprof.specs.Machine.{Next, Going, Ended, Faulted, Stuck, code_of, initial, step, run, divided}
 use Rattle.aplc_cprof.specs.Examples.{v0, literal}
 use Rattle.aplc_cprof.proofs.Values.{values, sizes}
 

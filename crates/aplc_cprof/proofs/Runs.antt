@@ -15,7 +15,7 @@ use Rattle.aplc_cprof.specs.declared.syntax.StuckCause.{StuckCause}
 use Rattle.aplc_cprof.specs.declared.syntax.StuckCause.TheVariants.{Range, Outside}
 use Rattle.aplc_scalar.specs.Number.{number_text}
 use Rattle.aplc_scalar.specs.Input.{Line, Unread, input_line, number_line}
-use Rattle.aplc_cprof.specs.Machine.{total, size, numbered, numbered_if, is_zero, chosen, no_ints, no_bufs, read_int, named_buf, set_buf, buf_or_null, text_width, new_cells, write_cell, write_live, with_line, read_cells, free_named, free_cells, enter, Place, Places, all_places, most_places, placed, deeper, leave_place, Caller, Todo, Code, State, Value, Is, Bad, Next, Going, Ended, Faulted, Stuck, value, ranged, exact, set_int, onward, with_value, limit_or, padded_text, printed, put_number, put_character, is_scalar, leave, act, due, settled, settled_next, step, and_then, run}
+use Rattle.aplc_cprof.specs.Machine.{total, size, numbered, numbered_if, is_zero, chosen, no_ints, no_bufs, read_int, named_buf, set_buf, buf_or_null, text_width, new_cells, write_cell, write_live, with_line, read_cells, free_named, free_cells, enter, Place, all_places, most_places, placed, deeper, leave_place, Caller, Todo, Code, State, Value, Is, Bad, Next, Going, Ended, Faulted, Stuck, value, ranged, exact, set_int, onward, with_value, limit_or, padded_text, printed, put_number, put_character, is_scalar, leave, act, due, settled, settled_next, step, and_then, run}
 
 goes : (c : Code) (k m : ℕ) (x : Next) → ((s : State) → run c (k + m) s ≡ and_then (run c k s) (run c m)) → and_then x (run c (k + m)) ≡ and_then (and_then x (run c k)) (run c m)
 goes c k m (Going s) ih = ih s

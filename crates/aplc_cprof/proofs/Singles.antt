@@ -1,6 +1,6 @@
 -- Rules of the statements that are no blocks: each comes to what follows it, or faults.
 -- They know no source, and count no steps.
-use Rattle.std.proofs.Common.{◌≡◌, ℕ, ◌+◌, ◌<◌, ◌≤◌, List, [], ◌∷◌, ◌++◌, ℤ, Bool, true}
+use Rattle.std.proofs.Common.{◌≡◌, ℕ, ◌<◌, ◌≤◌, List, [], ◌∷◌, ◌++◌, ℤ, true}
 use Rattle.std.specs.Prelude.{Option, Some, None, pos, ◌^◌, length, slice_get, slice_set, encode_utf8}
 use Rattle.aplc_scalar.specs.Input.{Line, Unread, input_line, number_line}
 use Rattle.aplc_scalar.specs.declared.kind.FaultKind.{FaultKind}
@@ -11,7 +11,7 @@ use Rattle.aplc_cprof.specs.declared.syntax.Checked.{Checked}
 use Rattle.aplc_cprof.specs.declared.syntax.StuckCause.{StuckCause}
 use Rattle.aplc_cprof.specs.declared.syntax.CExpr.{CExpr}
 use Rattle.aplc_cprof.specs.declared.syntax.CStmt.TheVariants as stmt
-use Rattle.aplc_cprof.specs.Machine.{Place, most_places, placed, deeper, named_buf, buf_or_null, set_buf, text_width, Todo, Code, State, Is, Bad, ranged, exact, set_int, with_line, padded_text, is_scalar, value, settled}
+use Rattle.aplc_cprof.specs.Machine.{Place, all_places, most_places, placed, deeper, named_buf, buf_or_null, set_buf, text_width, Todo, Code, State, Is, Bad, ranged, exact, set_int, with_line, padded_text, is_scalar, value, settled}
 use Rattle.aplc_cprof.proofs.Paths.{with_cells, does_Set, does_Check, does_Check_limit, does_PutNum, does_PutChar, does_At, does_Enter, does_Leave, does_Width, does_SetBuf, does_Cells, does_ReadText, does_ReadText_fault, does_ReadNums, does_ReadNums_fault, does_ReadCount, does_SetCell, does_Free_null, does_Free, does_Fault}
 use Rattle.aplc_cprof.proofs.Rules.{Runs, FaultsAt, runs_sure, runs_faults}
 
@@ -79,7 +79,7 @@ module _ (c : Code) (Q : State → Type 0) where
   runs_At name l s Post Stop q post = runs_sure c Q 1 (stmt.At name l ∷ []) s Post Stop (does_At c Q name l s Post (λ kind t. ⊥) q post)
 
   -- an empty place before the others, where fewer than 4,096 stand
-  pub runs_Enter : (s : State) (Post Stop : State → Type 0) → 1 + length s.places.behind < most_places → Onward Q (record s { places = deeper s.places }) → Onward Post (record s { places = deeper s.places }) → Runs c Q (stmt.Enter ∷ []) s Post Stop
+  pub runs_Enter : (s : State) (Post Stop : State → Type 0) → length (all_places s.places) < most_places → Onward Q (record s { places = deeper s.places }) → Onward Post (record s { places = deeper s.places }) → Runs c Q (stmt.Enter ∷ []) s Post Stop
   runs_Enter s Post Stop lt q post = runs_sure c Q 1 (stmt.Enter ∷ []) s Post Stop (does_Enter c Q s Post (λ kind t. ⊥) lt q post)
 
   -- the innermost place goes, where it is not the last

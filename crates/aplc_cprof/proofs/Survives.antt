@@ -1,7 +1,7 @@
 -- A value survives what does not touch it: the setting of another variable, a write to another buffer, a new buffer, a freed one.
 -- It must not know what the values are for.
-use Rattle.std.proofs.Common.{◌≡◌, ◌∙◌, ap, sym, refl, ℕ, zero, suc, ◌<◌, List, [], ◌∷◌, ◌++◌, ℤ, pos, arith}
-use Rattle.std.specs.Prelude.{Option, Some, None, IsTrue, length, replicate, slice_get, slice_set, option_and_then}
+use Rattle.std.proofs.Common.{◌≡◌, ◌∙◌, ap, sym, refl, ℕ, zero, suc, ◌<◌, List, [], ◌∷◌, ◌++◌, ℤ, arith}
+use Rattle.std.specs.Prelude.{Option, Some, None, IsTrue, length, slice_get, slice_set, option_and_then}
 use Rattle.aplc_cprof.specs.declared.syntax.Int.{Int}
 use Rattle.aplc_cprof.specs.declared.syntax.Int.TheVariants as int
 use Rattle.aplc_cprof.specs.declared.syntax.Buf.{Buf}

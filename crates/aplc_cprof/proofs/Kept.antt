@@ -81,12 +81,15 @@ kept_close a b d p is ints bufs =
 
 -- ---- By what a call of a builder leaves
 
+-- nothing
 pub kept_is : (a b : Blocks) → b ≡ a → IsKept a b
 kept_is a b e = subst (λ (b : Blocks). IsKept a b) (sym e) (kept_same a)
 
+-- a whole variable was given
 pub kept_int : (a b : Blocks) → b ≡ record a { ints = a.ints + 1 } → IsKept a b
 kept_int a b e = subst (λ (b : Blocks). IsKept a b) (sym e) (record { blocks = begin_same (open_blocks a); ints = omega arith; bufs = omega arith })
 
+-- a buffer variable was given
 pub kept_buf : (a b : Blocks) → b ≡ record a { bufs = a.bufs + 1 } → IsKept a b
 kept_buf a b e = subst (λ (b : Blocks). IsKept a b) (sym e) (record { blocks = begin_same (open_blocks a); ints = omega arith; bufs = omega arith })
 
@@ -95,5 +98,6 @@ pub kept_pushed : (a : Blocks) (new : List CStmt) (s : CStmt) (r : Result (Unit 
 kept_pushed a new s (Ok x) ok err = subst (λ (l : List CStmt). IsKept a (record a { inner = l })) (sym ok) (kept_code a (s ∷ []))
 kept_pushed a new s (Err e) ok err = subst (λ (l : List CStmt). IsKept a (record a { inner = l })) (sym err) (kept_same a)
 
+-- a block was begun
 pub kept_opened : (a b : Blocks) → b ≡ record a { outer = a.outer ++ a.inner ∷ []; inner = [] } → IsKept a b
 kept_opened a b e = subst (λ (b : Blocks). IsKept a b) (sym e) (kept_open a)

@@ -23,4 +23,5 @@ pub mod Functions
 pub mod Matching
 pub mod Kept
 pub mod Survives
+pub mod Writes
 mod RunExamples

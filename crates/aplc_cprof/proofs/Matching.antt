@@ -58,6 +58,7 @@ module _ (c : Code) (Q : State → Type 0) (S : Type 0) (Fails : FaultKind → S
   done_less (faults e T) Rel Rel' f t h = h
   done_less (goes_on T) Rel Rel' f t h = h
 
+  -- and so of code beside it
   pub matches_less : {A : Type 0} (code : List CStmt) (s : State) (out : Course S A) (Rel Rel' : A → S → State → Type 0) → ((a : A) (T : S) (t : State) → out ≡ gives a T → Rel a T t → Rel' a T t) → Matches code s out Rel → Matches code s out Rel'
   matches_less code s out Rel Rel' f r = runs_less c Q code s (Done out Rel) (Done out Rel') (Stopped out) (Stopped out) (done_less out Rel Rel' f) (λ t h. h) r
 
@@ -93,6 +94,7 @@ module _ (c : Code) (Q : State → Type 0) (S : Type 0) (Fails : FaultKind → S
   abbrev pub Ends : {A : Type 0} → Course S A → (A → S → State → Type 0) → State → Type 0
   Ends out Gone t = (Leaves c t × Done out Gone t) ⊎ Stopped out t
 
+  -- less is asked of what is given there
   pub ends_less : {A : Type 0} (out : Course S A) (Gone Gone' : A → S → State → Type 0) → ((a : A) (T : S) (t : State) → out ≡ gives a T → Gone a T t → Gone' a T t) → (t : State) → Ends out Gone t → Ends out Gone' t
   ends_less out Gone Gone' f t (inl d) = inl (d.0, done_less out Gone Gone' f t d.1)
   ends_less out Gone Gone' f t (inr h) = inr h

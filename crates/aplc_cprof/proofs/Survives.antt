@@ -12,9 +12,11 @@ use Rattle.aplc_cprof.proofs.Stores.{Agree, read_other, named_other, named_set_i
 
 -- ---- States that agree on the names of a scope
 
+-- a state agrees with itself
 pub agree_same : (sc : Scope) (s : State) → Agree sc s s
 agree_same sc s = record { ints = λ x h. refl; cells = λ p h. refl }
 
+-- and with what a third one agrees with
 pub agree_trans : (sc : Scope) (s t u : State) → Agree sc s t → Agree sc t u → Agree sc s u
 agree_trans sc s t u p q = record { ints = λ x h. p.ints x h ∙ q.ints x h; cells = λ b h. p.cells b h ∙ q.cells b h }
 

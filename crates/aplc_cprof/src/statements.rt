@@ -1,7 +1,7 @@
 //! Writes statements at the end of a text.
 //! It must not know programs, nor what a statement means.
 
-ghost use Rattle.std.specs.Prelude.{◌≡◌, ◌++◌, OnOk, codes};
+ghost use Rattle.std.specs.Prelude.{◌≡◌, ◌++◌, OnOk, Some, None, codes};
 ghost use Rattle.aplc_cprof.specs.Text.{checked_text, fault_number, expr_text, stmt_text, stmts_text, arm_text, arms_text};
 
 use crate::expressions::{put, put_buf, put_expr, put_int, put_number, put_signed};
@@ -98,60 +98,96 @@ fn put_call(out: &mut Vec<u8>, function: u32) -> Result<(), AllocError>
     put(out, b"();\n")
 }
 
+fn put_set(out: &mut Vec<u8>, x: Int, e: &CExpr) -> Result<(), AllocError>
+    ensures { OnOk result (out.new.items ≡ out.old.items ++ stmt_text (CStmt.Set x e.now)) }
+{
+    put_int(out, x)?;
+    put(out, b" = ")?;
+    put_expr(out, e)?;
+    put(out, b";\n")
+}
+
+fn put_set_cell(out: &mut Vec<u8>, p: Buf, e: &CExpr, f: &CExpr) -> Result<(), AllocError>
+    ensures { OnOk result (out.new.items ≡ out.old.items ++ stmt_text (CStmt.SetCell p e.now f.now)) }
+{
+    put_buf(out, p)?;
+    put(out, b"[")?;
+    put_expr(out, e)?;
+    put(out, b"] = ")?;
+    put_expr(out, f)?;
+    put(out, b";\n")
+}
+
+fn put_null(out: &mut Vec<u8>, p: Buf) -> Result<(), AllocError>
+    ensures { OnOk result (out.new.items ≡ out.old.items ++ stmt_text (CStmt.SetBuf p None)) }
+{
+    put_buf(out, p)?;
+    put(out, b" = 0;\n")
+}
+
+fn put_same_buf(out: &mut Vec<u8>, p: Buf, q: Buf) -> Result<(), AllocError>
+    ensures { OnOk result (out.new.items ≡ out.old.items ++ stmt_text (CStmt.SetBuf p (Some q))) }
+{
+    put_buf(out, p)?;
+    put(out, b" = ")?;
+    put_buf(out, q)?;
+    put(out, b";\n")
+}
+
+fn put_cells(out: &mut Vec<u8>, p: Buf, e: &CExpr) -> Result<(), AllocError>
+    ensures { OnOk result (out.new.items ≡ out.old.items ++ stmt_text (CStmt.Cells p e.now)) }
+{
+    put_buf(out, p)?;
+    put_last(out, b" = cells(", e)
+}
+
+fn put_free(out: &mut Vec<u8>, p: Buf) -> Result<(), AllocError>
+    ensures { OnOk result (out.new.items ≡ out.old.items ++ stmt_text (CStmt.Free p)) }
+{
+    put(out, b"drop(")?;
+    put_buf(out, p)?;
+    put(out, b");\n")
+}
+
+fn put_check(out: &mut Vec<u8>, x: Int, op: Checked, e: &CExpr, f: &CExpr) -> Result<(), AllocError>
+    ensures { OnOk result (out.new.items ≡ out.old.items ++ stmt_text (CStmt.Check x op e.now f.now)) }
+{
+    put_int(out, x)?;
+    put(out, checked_bytes(op))?;
+    put_expr(out, e)?;
+    put_last(out, b", ", f)
+}
+
+fn put_width(out: &mut Vec<u8>, x: Int, e: &CExpr) -> Result<(), AllocError>
+    ensures { OnOk result (out.new.items ≡ out.old.items ++ stmt_text (CStmt.Width x e.now)) }
+{
+    put_int(out, x)?;
+    put_last(out, b" = width(", e)
+}
+
+fn put_put_num(out: &mut Vec<u8>, e: &CExpr, f: &CExpr) -> Result<(), AllocError>
+    ensures { OnOk result (out.new.items ≡ out.old.items ++ stmt_text (CStmt.PutNum e.now f.now)) }
+{
+    put(out, b"put_num(")?;
+    put_expr(out, e)?;
+    put_last(out, b", ", f)
+}
+
 #[cycle(stmts)]
 #[tactic(auto, using(crate::proofs::Equations::texts))]
 fn put_stmt(out: &mut Vec<u8>, s: &CStmt) -> Result<(), AllocError>
     ensures { OnOk result (out.new.items ≡ out.old.items ++ stmt_text s.now) }
 {
     match s {
-        CStmt::Set(x, e) => {
-            put_int(out, *x)?;
-            put(out, b" = ")?;
-            put_expr(out, e)?;
-            put(out, b";\n")
-        }
-        CStmt::SetCell(p, e, f) => {
-            put_buf(out, *p)?;
-            put(out, b"[")?;
-            put_expr(out, e)?;
-            put(out, b"] = ")?;
-            put_expr(out, f)?;
-            put(out, b";\n")
-        }
-        CStmt::SetBuf(p, None) => {
-            put_buf(out, *p)?;
-            put(out, b" = 0;\n")
-        }
-        CStmt::SetBuf(p, Some(q)) => {
-            put_buf(out, *p)?;
-            put(out, b" = ")?;
-            put_buf(out, *q)?;
-            put(out, b";\n")
-        }
-        CStmt::Cells(p, e) => {
-            put_buf(out, *p)?;
-            put_last(out, b" = cells(", e)
-        }
-        CStmt::Free(p) => {
-            put(out, b"drop(")?;
-            put_buf(out, *p)?;
-            put(out, b");\n")
-        }
-        CStmt::Check(x, op, e, f) => {
-            put_int(out, *x)?;
-            put(out, checked_bytes(*op))?;
-            put_expr(out, e)?;
-            put_last(out, b", ", f)
-        }
-        CStmt::Width(x, e) => {
-            put_int(out, *x)?;
-            put_last(out, b" = width(", e)
-        }
-        CStmt::PutNum(e, f) => {
-            put(out, b"put_num(")?;
-            put_expr(out, e)?;
-            put_last(out, b", ", f)
-        }
+        CStmt::Set(x, e) => put_set(out, *x, e),
+        CStmt::SetCell(p, e, f) => put_set_cell(out, *p, e, f),
+        CStmt::SetBuf(p, None) => put_null(out, *p),
+        CStmt::SetBuf(p, Some(q)) => put_same_buf(out, *p, *q),
+        CStmt::Cells(p, e) => put_cells(out, *p, e),
+        CStmt::Free(p) => put_free(out, *p),
+        CStmt::Check(x, op, e, f) => put_check(out, *x, *op, e, f),
+        CStmt::Width(x, e) => put_width(out, *x, e),
+        CStmt::PutNum(e, f) => put_put_num(out, e, f),
         CStmt::PutChar(e) => put_last(out, b"put_char(", e),
         CStmt::ReadText(p) => put_read_text(out, *p),
         CStmt::ReadNums(p) => put_read_nums(out, *p),

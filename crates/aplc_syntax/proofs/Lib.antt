@@ -2,6 +2,7 @@ mod Sources
 mod Examples
 mod Whole
 mod Refused
+pub mod PlainForms
 pub mod Complete
 pub mod Built
 pub mod Counted

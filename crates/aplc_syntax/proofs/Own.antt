@@ -1,15 +1,11 @@
 -- The numbers of the nodes of a statement are the places of words, and no word serves for two of them.
 use Rattle.std.proofs.Common.{◌≡◌, ℕ, ◌+◌, ◌≤◌, List, [], ◌∷◌, ◌++◌, ℤ, Option, Some, None, map, refl, sym, ap, ◌∙◌, subst, inl, inr, arith, nat_eq, cond}
 use Rattle.aplc_scalar.specs.declared.function.ScalarFn.TheVariants as f
-use Rattle.aplc_syntax.specs.declared.tree.NameId.{NameId}
 use Rattle.aplc_syntax.specs.declared.tree.Primitive.{Primitive}
 use Rattle.aplc_syntax.specs.declared.tree.Primitive.TheVariants as pr
-use Rattle.aplc_syntax.specs.declared.tree.Form.{Form, fold-Form, fold-roll-Form}
-use Rattle.aplc_syntax.specs.declared.tree.Form.TheOpen.{Form-F, Node-F}
-use Rattle.aplc_syntax.specs.declared.tree.Form.TheOpen as o
+use Rattle.aplc_syntax.specs.declared.tree.Form.{Form}
 use Rattle.aplc_syntax.specs.declared.tree.Form.TheVariants as v
-use Rattle.aplc_syntax.specs.declared.tree.Form.TheShapes.{former-Form-Index-1-at-1}
-use Rattle.aplc_syntax.specs.declared.tree.Node.{Node, fold-roll-Node, rolls-Node'}
+use Rattle.aplc_syntax.specs.declared.tree.Node.{Node}
 use Rattle.aplc_syntax.specs.declared.tree.Statement.{Statement}
 use Rattle.aplc_syntax.specs.declared.word.Arity.TheVariants as arity
 use Rattle.aplc_syntax.specs.declared.word.Role.TheVariants as role
@@ -18,7 +14,9 @@ use Rattle.aplc_syntax.specs.declared.word.WordKind.TheVariants as w
 use Rattle.aplc_syntax.specs.Grammar.{F, arith_fn, compare_fn, X, no_axis, axis, M, arith1, not1, both1, turn1, reduce, call1, D, scalar2, both2, dyadic2, turn2, copies, outer, inner, call2, N, no_number, number, S, numbers, literal, variable, call0, text_input, nums_input, E, operand, before, between, assign, assign_at, show, O, simple, paren, index, L, last_gap, last_entry, gap, entry, Sentence, value, branch, perform0, perform1, perform2, spell, spell_F, spell_X, spell_M, spell_D, spell_N, spell_S, spell_E, spell_O, spell_L}
 use Rattle.aplc_syntax.specs.Words.{word, text_between}
 use Rattle.aplc_syntax.specs.Trees.{node, name_id, scalar_of, axis_of, reduction, copying, numbers_of, apply1, apply2, tree_S, tree_E, tree_O, trees_L, valued, statement_of}
-use Rattle.aplc_syntax.specs.Programs.{IsStatement, node_ids, node_step, form_ids, all_ids, statement_ids}
+use Rattle.aplc_syntax.specs.PlainTrees.{tree_of, trees_in, ids, trees_ids}
+use Rattle.aplc_syntax.specs.Programs.{IsStatement, node_ids, statement_ids}
+use Rattle.aplc_syntax.proofs.PlainForms.{numbers_node, text_node, name_node, text_input_node, nums_input_node, mono_node, dyad_node, index_node, assign_node, assign_at_node, show_node, call_node}
 
 -- ---- Counting
 
@@ -44,130 +42,55 @@ at q (x ∷ xs) = one_at q x.place + at q xs
 pub count : ℕ → Node → ℕ
 count q n = cnt q (node_ids n)
 
--- and how many in the entries of a list
+-- and how many in the places of an index list
 abbrev pub count_all : ℕ → List (Option Node) → ℕ
-count_all q [] = 0
-count_all q (None ∷ xs) = count_all q xs
-count_all q (Some n ∷ xs) = count q n + count_all q xs
+count_all q xs = cnt q (trees_ids (trees_in xs))
 
--- ---- The numbers of each form
-
-held : Form → List ℕ
-held f = fold-Form (List ℕ) (List ℕ) form_ids node_step f
-
-node_held : (p : ℕ) (f : Form) → node_ids (node p f) ≡ p ∷ held f
-unfolding held
-node_held p f =
-    let n : Node-F Form Node = record { id = record { 0 = p }; place = p; form = f } in
-    ap node_ids (sym (rolls-Node' n)) ∙ fold-roll-Node (List ℕ) (List ℕ) form_ids node_step n
-
-mono_held : (g : Primitive) (a : Node) → held (v.Mono g a) ≡ node_ids a
-unfolding held
-mono_held g a = ap held (sym (v.rolls-Mono g a)) ∙ fold-roll-Form (List ℕ) (List ℕ) form_ids node_step (o.Mono g a)
-
-dyad_held : (g : Primitive) (a b : Node) → held (v.Dyad g a b) ≡ node_ids a ++ node_ids b
-unfolding held
-dyad_held g a b = ap held (sym (v.rolls-Dyad g a b)) ∙ fold-roll-Form (List ℕ) (List ℕ) form_ids node_step (o.Dyad g a b)
-
-assign_held : (n : NameId) (a : Node) → held (v.Assign n a) ≡ node_ids a
-unfolding held
-assign_held n a = ap held (sym (v.rolls-Assign n a)) ∙ fold-roll-Form (List ℕ) (List ℕ) form_ids node_step (o.Assign n a)
-
-show_held : (a : Node) → held (v.Show a) ≡ node_ids a
-unfolding held
-show_held a = ap held (sym (v.rolls-Show a)) ∙ fold-roll-Form (List ℕ) (List ℕ) form_ids node_step (o.Show a)
-
-call0_held : (n : NameId) → held (v.Call n None None) ≡ []
-unfolding held
-call0_held n = ap held (sym (v.rolls-Call n None None)) ∙ fold-roll-Form (List ℕ) (List ℕ) form_ids node_step (o.Call n None None)
-
-call1_held : (n : NameId) (a : Node) → held (v.Call n None (Some a)) ≡ node_ids a ++ []
-unfolding held
-call1_held n a = ap held (sym (v.rolls-Call n None (Some a))) ∙ fold-roll-Form (List ℕ) (List ℕ) form_ids node_step (o.Call n None (Some a))
-
-call2_held : (n : NameId) (a b : Node) → held (v.Call n (Some a) (Some b)) ≡ node_ids a ++ (node_ids b ++ [])
-unfolding held
-call2_held n a b = ap held (sym (v.rolls-Call n (Some a) (Some b))) ∙ fold-roll-Form (List ℕ) (List ℕ) form_ids node_step (o.Call n (Some a) (Some b))
-
-numbers_held : (xs : List ℤ) → held (v.Numbers xs) ≡ []
-unfolding held
-numbers_held xs = ap held (sym (v.rolls-Numbers xs)) ∙ fold-roll-Form (List ℕ) (List ℕ) form_ids node_step (o.Numbers xs)
-
-text_held : (cs : List ℕ) → held (v.Text cs) ≡ []
-unfolding held
-text_held cs = ap held (sym (v.rolls-Text cs)) ∙ fold-roll-Form (List ℕ) (List ℕ) form_ids node_step (o.Text cs)
-
-name_held : (n : NameId) → held (v.Name n) ≡ []
-unfolding held
-name_held n = ap held (sym (v.rolls-Name n)) ∙ fold-roll-Form (List ℕ) (List ℕ) form_ids node_step (o.Name n)
-
-text_input_held : held v.TextInput ≡ []
-unfolding held
-text_input_held = ap held (sym v.rolls-TextInput) ∙ fold-roll-Form (List ℕ) (List ℕ) form_ids node_step o.TextInput
-
-nums_input_held : held v.NumsInput ≡ []
-unfolding held
-nums_input_held = ap held (sym v.rolls-NumsInput) ∙ fold-roll-Form (List ℕ) (List ℕ) form_ids node_step o.NumsInput
-
--- an entry's numbers, if it isn't left out
-abbrev entry_ids : Option Node → Option (List ℕ)
-entry_ids x = (former-Form-Index-1-at-1).map Node (List ℕ) node_ids x
-
-count_entries : (q : ℕ) (xs : List (Option Node)) → cnt q (all_ids (map entry_ids xs)) ≡ count_all q xs
+cnt_entry : (q : ℕ) (n : Node) (xs : List (Option Node)) → count_all q (Some n ∷ xs) ≡ count q n + count_all q xs
 unfolding count
-count_entries q [] = refl
-count_entries q (None ∷ xs) = count_entries q xs
-count_entries q (Some n ∷ xs) = let h = count_entries q xs in cnt_append q (node_ids n) (all_ids (map entry_ids xs)) ∙ omega (arith, h)
-
-index_held : (a : Node) (xs : List (Option Node)) → held (v.Index a xs) ≡ node_ids a ++ all_ids (map entry_ids xs)
-unfolding held
-index_held a xs = ap held (sym (v.rolls-Index a xs)) ∙ fold-roll-Form (List ℕ) (List ℕ) form_ids node_step (o.Index a xs)
-
-assign_at_held : (n : NameId) (xs : List (Option Node)) (a : Node) → held (v.AssignAt n xs a) ≡ all_ids (map entry_ids xs) ++ node_ids a
-unfolding held
-assign_at_held n xs a = ap held (sym (v.rolls-AssignAt n xs a)) ∙ fold-roll-Form (List ℕ) (List ℕ) form_ids node_step (o.AssignAt n xs a)
+cnt_entry q n xs = cnt_append q (node_ids n) (trees_ids (trees_in xs))
 
 -- ---- How many each form has
 
-count_held : (q p : ℕ) (f : Form) (n : ℕ) → cnt q (held f) ≡ n → count q (node p f) ≡ one_at q p + n
+plain_count : (q p : ℕ) (f : Form) → ids (tree_of (node p f)) ≡ p ∷ [] → count q (node p f) ≡ one_at q p + 0
 unfolding count
-count_held q p f n e = ap (cnt q) (node_held p f) ∙ ap (λ (m : ℕ). one_at q p + m) e
-
-plain_count : (q p : ℕ) (f : Form) → held f ≡ [] → count q (node p f) ≡ one_at q p + 0
-plain_count q p f e = count_held q p f 0 (ap (cnt q) e)
-
-one_count : (q p : ℕ) (f : Form) (a : Node) → held f ≡ node_ids a → count q (node p f) ≡ one_at q p + count q a
-unfolding count
-one_count q p f a e = count_held q p f (count q a) (ap (cnt q) e)
-
-two_count : (q p : ℕ) (f : Form) (a b : Node) → held f ≡ node_ids a ++ node_ids b → count q (node p f) ≡ one_at q p + (count q a + count q b)
-unfolding count
-two_count q p f a b e = count_held q p f (count q a + count q b) (ap (cnt q) e ∙ cnt_append q (node_ids a) (node_ids b))
+plain_count q p f e = ap (cnt q) e
 
 mono_count : (q p : ℕ) (g : Primitive) (a : Node) → count q (node p (v.Mono g a)) ≡ one_at q p + count q a
-mono_count q p g a = one_count q p (v.Mono g a) a (mono_held g a)
+unfolding count
+mono_count q p g a = ap (λ t. cnt q (ids t)) (mono_node p g a)
+
+assign_count : (q p n : ℕ) (a : Node) → count q (node p (v.Assign (name_id n) a)) ≡ one_at q p + count q a
+unfolding count
+assign_count q p n a = ap (λ t. cnt q (ids t)) (assign_node p n a)
+
+show_count : (q p : ℕ) (a : Node) → count q (node p (v.Show a)) ≡ one_at q p + count q a
+unfolding count
+show_count q p a = ap (λ t. cnt q (ids t)) (show_node p a)
 
 dyad_count : (q p : ℕ) (g : Primitive) (a b : Node) → count q (node p (v.Dyad g a b)) ≡ one_at q p + (count q a + count q b)
-dyad_count q p g a b = two_count q p (v.Dyad g a b) a b (dyad_held g a b)
-
-call1_count : (q p : ℕ) (n : NameId) (b : Node) → count q (node p (v.Call n None (Some b))) ≡ one_at q p + count q b
 unfolding count
-call1_count q p n b = count_held q p (v.Call n None (Some b)) (count q b) (ap (cnt q) (call1_held n b) ∙ cnt_append q (node_ids b) [] ∙ omega arith)
+dyad_count q p g a b = ap (λ t. cnt q (ids t)) (dyad_node p g a b) ∙ ap (λ (m : ℕ). one_at q p + m) (cnt_append q (node_ids a) (node_ids b))
 
-call2_count : (q p : ℕ) (n : NameId) (a b : Node) → count q (node p (v.Call n (Some a) (Some b))) ≡ one_at q p + (count q a + count q b)
+call0_count : (q p n : ℕ) → count q (node p (v.Call (name_id n) None None)) ≡ one_at q p + 0
 unfolding count
-call2_count q p n a b = count_held q p (v.Call n (Some a) (Some b)) (count q a + count q b)
-    (let h = cnt_append q (node_ids a) (node_ids b ++ []) in let i = cnt_append q (node_ids b) [] in ap (cnt q) (call2_held n a b) ∙ omega (arith, h, i))
+call0_count q p n = ap (λ t. cnt q (ids t)) (call_node p n None None)
+
+call1_count : (q p n : ℕ) (b : Node) → count q (node p (v.Call (name_id n) None (Some b))) ≡ one_at q p + count q b
+unfolding count
+call1_count q p n b = ap (λ t. cnt q (ids t)) (call_node p n None (Some b))
+
+call2_count : (q p n : ℕ) (a b : Node) → count q (node p (v.Call (name_id n) (Some a) (Some b))) ≡ one_at q p + (count q a + count q b)
+unfolding count
+call2_count q p n a b = ap (λ t. cnt q (ids t)) (call_node p n (Some a) (Some b)) ∙ ap (λ (m : ℕ). one_at q p + m) (cnt_append q (node_ids a) (node_ids b))
 
 index_count : (q p : ℕ) (a : Node) (xs : List (Option Node)) → count q (node p (v.Index a xs)) ≡ one_at q p + (count q a + count_all q xs)
 unfolding count
-index_count q p a xs = count_held q p (v.Index a xs) (count q a + count_all q xs)
-    (let h = cnt_append q (node_ids a) (all_ids (map entry_ids xs)) in let i = count_entries q xs in ap (cnt q) (index_held a xs) ∙ omega (arith, h, i))
+index_count q p a xs = ap (λ t. cnt q (ids t)) (index_node p a xs) ∙ ap (λ (m : ℕ). one_at q p + m) (cnt_append q (node_ids a) (trees_ids (trees_in xs)))
 
-assign_at_count : (q p : ℕ) (n : NameId) (xs : List (Option Node)) (a : Node) → count q (node p (v.AssignAt n xs a)) ≡ one_at q p + (count_all q xs + count q a)
+assign_at_count : (q p n : ℕ) (xs : List (Option Node)) (a : Node) → count q (node p (v.AssignAt (name_id n) xs a)) ≡ one_at q p + (count_all q xs + count q a)
 unfolding count
-assign_at_count q p n xs a = count_held q p (v.AssignAt n xs a) (count_all q xs + count q a)
-    (let h = cnt_append q (all_ids (map entry_ids xs)) (node_ids a) in let i = count_entries q xs in ap (cnt q) (assign_at_held n xs a) ∙ omega (arith, h, i))
+assign_at_count q p n xs a = ap (λ t. cnt q (ids t)) (assign_at_node p n xs a) ∙ ap (λ (m : ℕ). one_at q p + m) (cnt_append q (trees_ids (trees_in xs)) (node_ids a))
 
 -- ---- The words of each form
 
@@ -186,7 +109,7 @@ own_M q (both1 p g) b k = let h = mono_count q p g b in omega arith
 own_M q (turn1 p a x) b k = let h = mono_count q p (pr.Reverse (axis_of a x)) b in let i = own_X q x k in omega arith
 own_M q (reduce p g ps s a x) b k =
     let h = mono_count q p (reduction s (scalar_of g) (axis_of a x)) b in let i = own_X q x k in let j = own_F q g p (word (w.Stroke s a) ps ∷ spell_X x k) in omega arith
-own_M q (call1 p n) b k = let h = call1_count q p (name_id n) b in omega arith
+own_M q (call1 p n) b k = let h = call1_count q p n b in omega arith
 
 own_D : (q : ℕ) (d : D) (a b : Node) (k : List Word) → count q (apply2 d a b) + at q k ≤ (count q a + count q b) + at q (spell_D d k)
 own_D q (scalar2 p g) a b k = let h = dyad_count q p (pr.Scalar (scalar_of g)) a b in let i = own_F q g p k in omega arith
@@ -197,19 +120,19 @@ own_D q (copies p s c x) a b k = let h = dyad_count q p (copying s (axis_of c x)
 own_D q (outer p pd pf g) a b k = let h = dyad_count q p (pr.Outer (scalar_of g)) a b in let i = own_F q g pf k in omega arith
 own_D q (inner p g pd ph j) a b k =
     let h = dyad_count q p (pr.Inner (scalar_of g) (scalar_of j)) a b in let i = own_F q j ph k in let l = own_F q g p (word w.Dot pd ∷ spell_F j ph k) in omega arith
-own_D q (call2 p n) a b k = let h = call2_count q p (name_id n) a b in omega arith
+own_D q (call2 p n) a b k = let h = call2_count q p n a b in omega arith
 
 own_N : (q : ℕ) (ns : N) (k : List Word) → at q k ≤ at q (spell_N ns k)
 own_N q no_number k = omega arith
 own_N q (number p x ns) k = let h = own_N q ns k in omega arith
 
 own_S : (text : List ℕ) (q : ℕ) (a : S) (k : List Word) → count q (tree_S text a) + at q k ≤ at q (spell_S a k)
-own_S text q (numbers p x ns) k = let h = plain_count q p (v.Numbers (x ∷ numbers_of ns)) (numbers_held (x ∷ numbers_of ns)) in let i = own_N q ns k in omega arith
-own_S text q (literal p to) k = let h = plain_count q p (v.Text (text_between text p to)) (text_held (text_between text p to)) in omega arith
-own_S text q (variable p n) k = let h = plain_count q p (v.Name (name_id n)) (name_held (name_id n)) in omega arith
-own_S text q (call0 p n) k = let h = plain_count q p (v.Call (name_id n) None None) (call0_held (name_id n)) in omega arith
-own_S text q (text_input p) k = let h = plain_count q p v.TextInput text_input_held in omega arith
-own_S text q (nums_input p) k = let h = plain_count q p v.NumsInput nums_input_held in omega arith
+own_S text q (numbers p x ns) k = let h = plain_count q p (v.Numbers (x ∷ numbers_of ns)) (ap ids (numbers_node p (x ∷ numbers_of ns))) in let i = own_N q ns k in omega arith
+own_S text q (literal p to) k = let h = plain_count q p (v.Text (text_between text p to)) (ap ids (text_node p (text_between text p to))) in omega arith
+own_S text q (variable p n) k = let h = plain_count q p (v.Name (name_id n)) (ap ids (name_node p n)) in omega arith
+own_S text q (call0 p n) k = let h = call0_count q p n in omega arith
+own_S text q (text_input p) k = let h = plain_count q p v.TextInput (ap ids (text_input_node p)) in omega arith
+own_S text q (nums_input p) k = let h = plain_count q p v.NumsInput (ap ids (nums_input_node p)) in omega arith
 
 mutual
   own_E : (text : List ℕ) (q : ℕ) (e : E) (k : List Word) → count q (tree_E text e) + at q k ≤ at q (spell_E e k)
@@ -217,10 +140,10 @@ mutual
   own_E text q (before x e) k = let h = own_M q x (tree_E text e) (spell_E e k) in let i = own_E text q e k in omega arith
   own_E text q (between a d e) k =
       let h = own_D q d (tree_O text a) (tree_E text e) (spell_E e k) in let i = own_E text q e k in let j = own_O text q a (spell_D d (spell_E e k)) in omega arith
-  own_E text q (assign r p n pa e) k = let h = one_count q p (v.Assign (name_id n) (tree_E text e)) (tree_E text e) (assign_held (name_id n) (tree_E text e)) in let i = own_E text q e k in omega arith
+  own_E text q (assign r p n pa e) k = let h = assign_count q p n (tree_E text e) in let i = own_E text q e k in omega arith
   own_E text q (assign_at r p n pl l pa e) k =
-      let h = assign_at_count q p (name_id n) (trees_L text l) (tree_E text e) in let i = own_E text q e k in let j = own_L text q l (word w.Assign pa ∷ spell_E e k) in omega arith
-  own_E text q (show p pa e) k = let h = one_count q p (v.Show (tree_E text e)) (tree_E text e) (show_held (tree_E text e)) in let i = own_E text q e k in omega arith
+      let h = assign_at_count q p n (trees_L text l) (tree_E text e) in let i = own_E text q e k in let j = own_L text q l (word w.Assign pa ∷ spell_E e k) in omega arith
+  own_E text q (show p pa e) k = let h = show_count q p (tree_E text e) in let i = own_E text q e k in omega arith
 
   own_O : (text : List ℕ) (q : ℕ) (a : O) (k : List Word) → count q (tree_O text a) + at q k ≤ at q (spell_O a k)
   own_O text q (simple a) k = own_S text q a k
@@ -230,9 +153,9 @@ mutual
 
   own_L : (text : List ℕ) (q : ℕ) (l : L) (k : List Word) → count_all q (trees_L text l) + at q k ≤ at q (spell_L l k)
   own_L text q (last_gap p) k = omega arith
-  own_L text q (last_entry e p) k = let h = own_E text q e (word w.CloseBracket p ∷ k) in omega arith
+  own_L text q (last_entry e p) k = let h = own_E text q e (word w.CloseBracket p ∷ k) in let i = cnt_entry q (tree_E text e) [] in omega arith
   own_L text q (gap p l) k = let h = own_L text q l k in omega arith
-  own_L text q (entry e p l) k = let h = own_E text q e (word w.Semicolon p ∷ spell_L l k) in let i = own_L text q l k in omega arith
+  own_L text q (entry e p l) k = let h = own_E text q e (word w.Semicolon p ∷ spell_L l k) in let i = own_L text q l k in let j = cnt_entry q (tree_E text e) (trees_L text l) in omega arith
 
 -- ---- Statements
 
@@ -252,9 +175,9 @@ own : (text : List ℕ) (q : ℕ) (x : Sentence) → cnt q (statement_ids (state
 unfolding count
 own text q (value e) = let h = own_alone text q e in let i : cnt q (statement_ids (valued e (tree_E text e))) ≡ cnt q (node_ids (tree_E text e)) = ap (cnt q) (valued_ids e (tree_E text e)) in omega arith
 own text q (branch p e) = let h = own_alone text q e in omega arith
-own text q (perform0 p n) = let h = plain_count q p (v.Call (name_id n) None None) (call0_held (name_id n)) in omega arith
-own text q (perform1 p n e) = let h = call1_count q p (name_id n) (tree_E text e) in let i = own_alone text q e in omega arith
-own text q (perform2 a p n e) = let h = call2_count q p (name_id n) (tree_O text a) (tree_E text e) in let i = own_alone text q e in
+own text q (perform0 p n) = let h = call0_count q p n in omega arith
+own text q (perform1 p n e) = let h = call1_count q p n (tree_E text e) in let i = own_alone text q e in omega arith
+own text q (perform2 a p n e) = let h = call2_count q p n (tree_O text a) (tree_E text e) in let i = own_alone text q e in
     let j = own_O text q a (word (w.Name (role.Procedure arity.Dyadic) n) p ∷ spell_E e []) in omega arith
 
 pub own_statement : (text : List ℕ) (q : ℕ) (ws : List Word) (s : Statement) → IsStatement text ws s → cnt q (statement_ids s) ≤ at q ws

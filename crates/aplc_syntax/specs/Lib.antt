@@ -1,6 +1,7 @@
 pub mod Words
 pub mod Grammar
 pub mod Trees
+pub mod PlainTrees
 pub mod Layout
 pub mod Programs
 pub mod Refusals

@@ -2,9 +2,7 @@
 use Rattle.std.specs.Prelude.{◌≡◌, ◌≤◌, ◌+◌, ◌-◌, ◌⊎◌, ℕ, List, [], ◌∷◌, ◌++◌, length, filter_map, All, flat_map, Option, Some, None, ℤ, pos, nat_lt, if◌then◌else◌}
 use Rattle.std.specs.List.{AllZip}
 use Rattle.aplc_lex.specs.declared.token.Token.{Token}
-use Rattle.aplc_syntax.specs.declared.tree.Form.TheOpen as o
-use Rattle.aplc_syntax.specs.declared.tree.Form.TheOpen.{Form-F}
-use Rattle.aplc_syntax.specs.declared.tree.Node.{Node, Node-F, fold-Node}
+use Rattle.aplc_syntax.specs.declared.tree.Node.{Node}
 use Rattle.aplc_syntax.specs.declared.tree.Line.{Line}
 use Rattle.aplc_syntax.specs.declared.tree.Function.{Function}
 use Rattle.aplc_syntax.specs.declared.tree.Program.{Program}
@@ -17,6 +15,7 @@ use Rattle.aplc_syntax.specs.declared.word.WordKind.TheVariants as w
 use Rattle.aplc_syntax.specs.Words.{names_in}
 use Rattle.aplc_syntax.specs.Grammar.{Sentence, spell}
 use Rattle.aplc_syntax.specs.Trees.{statement_of, nodes_of}
+use Rattle.aplc_syntax.specs.PlainTrees.{tree_of, ids}
 use Rattle.aplc_syntax.specs.Layout.{Row, Block, Header, Declaration, parts_of, blocks, above, below, header_of, headers, label_of, sentence, declaration, origin_of, var_of}
 
 -- ---- Statements
@@ -99,27 +98,9 @@ pub record IsProgramOf (text : List ℕ) (ts : List Token) (p : Program) : Type 
 
 -- ---- Numbers of nodes
 
-abbrev pub all_ids : List (Option (List ℕ)) → List ℕ
-all_ids [] = []
-all_ids (None ∷ xs) = all_ids xs
-all_ids (Some is ∷ xs) = is ++ all_ids xs
-
-abbrev pub form_ids : Form-F (List ℕ) (List ℕ) → List ℕ
-form_ids (o.Mono f a) = a
-form_ids (o.Dyad f a b) = a ++ b
-form_ids (o.Index a xs) = a ++ all_ids xs
-form_ids (o.Assign n a) = a
-form_ids (o.AssignAt n xs a) = all_ids xs ++ a
-form_ids (o.Show a) = a
-form_ids (o.Call n a b) = all_ids (a ∷ b ∷ [])
-form_ids _ = []
-
-abbrev pub node_step : Node-F (List ℕ) (List ℕ) → List ℕ
-node_step n = n.id.0 ∷ n.form
-
 -- the numbers of a node and of all nodes in it
 abbrev pub node_ids : Node → List ℕ
-node_ids n = fold-Node (List ℕ) (List ℕ) form_ids node_step n
+node_ids n = ids (tree_of n)
 
 abbrev pub statement_ids : Statement → List ℕ
 statement_ids st.Empty = []

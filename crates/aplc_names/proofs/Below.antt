@@ -10,24 +10,21 @@ use Rattle.aplc_lex.specs.declared.token.TokenKind.{TokenKind}
 use Rattle.aplc_lex.specs.declared.token.TokenKind.TheVariants as k
 use Rattle.aplc_syntax.specs.declared.tree.Named.{Named}
 use Rattle.aplc_syntax.specs.declared.tree.Var.{Var}
-use Rattle.aplc_syntax.specs.declared.tree.Node.{Node}
-use Rattle.aplc_syntax.specs.declared.tree.Form.{Form}
-use Rattle.aplc_syntax.specs.declared.tree.Form.TheVariants as v
 use Rattle.aplc_syntax.specs.declared.tree.Statement.{Statement}
 use Rattle.aplc_syntax.specs.declared.tree.Statement.TheVariants as st
 use Rattle.aplc_syntax.specs.declared.tree.Function.{Function}
 use Rattle.aplc_syntax.specs.declared.tree.Line.{Line}
 use Rattle.aplc_syntax.specs.declared.tree.Program.{Program}
 use Rattle.aplc_syntax.specs.Words.{word_of, words, names_in, kind_of, is_name, spelling, with_name, with_token, number_of}
-use Rattle.aplc_syntax.specs.Trees.{node}
+use Rattle.aplc_syntax.specs.PlainTrees.{Trees, Argument}
+use Rattle.aplc_syntax.specs.PlainTrees as t
 use Rattle.aplc_syntax.specs.Layout.{blocks, headers, parts_of, var_of}
 use Rattle.aplc_names.specs.declared.outline.Mention.{Mention}
-use Rattle.aplc_names.specs.Outlines.{mention, node_mentions, nodes_mentions, names_of_form, optional_mentions, statement_mentions, label_mention, line_mentions, lines_mentions, header_names, line_label, labels_in, local_names_of, outline}
+use Rattle.aplc_names.specs.Outlines.{tree_mentions, trees_mentions, argument_mentions, statement_mentions, label_mention, line_mentions, lines_mentions, header_names, line_label, labels_in, local_names_of, outline}
 use Rattle.aplc_names.specs.Programs.{IsParsed, IsBelow, IsOutlineBelow, HasNamesBelow}
-use Rattle.aplc_names.proofs.Equations.{node_equation, names_Numbers, names_Text, names_Name, names_TextInput, names_NumsInput, names_Mono, names_Dyad, names_Index, names_Assign, names_AssignAt, names_Show, names_Call}
 use Rattle.aplc_names.proofs.Symbols.{sign_weight}
 use Rattle.aplc_names.proofs.Headers.{names_weight, function_weight, whole_weight, weigh_whole, vars_weight, weigh_vars}
-use Rattle.aplc_names.proofs.Weights.{Scale, IsEven, optional_weight, entries_weight, statement_weight, lines_weight, kind_weight, weight, optional_named, weigh_blocks, weigh_text}
+use Rattle.aplc_names.proofs.Weights.{Scale, IsEven, argument_weight, trees_weight, statement_weight, lines_weight, kind_weight, weight, optional_named, weigh_blocks, weigh_text}
 
 -- ---- Names that have no place in a list of n
 
@@ -60,38 +57,33 @@ strays_append n [] ys = omega arith
 strays_append n (x ∷ xs) ys = let h = strays_append n xs ys in omega arith
 
 abbrev scale : ℕ → Scale
-scale n = record { number_weight = λ x. 0; text_weight = λ cs. 0; name_weight = beyond n; node_weight = λ a. strays n (node_mentions a) }
+scale n = record { number_weight = λ x. 0; text_weight = λ cs. 0; name_weight = beyond n; tree_weight = λ a. strays n (tree_mentions a) }
 
 -- ---- Forms
 
-count : (n p : ℕ) (x : Form) (ms : List Mention) → names_of_form x p ≡ ms → strays n (node_mentions (node p x)) ≡ strays n ms
-count n p x ms e = ap (strays n) (node_equation (node p x) ∙ e)
+same_trees : (n : ℕ) (xs : Trees) → strays n (trees_mentions xs) ≡ trees_weight (scale n) xs
+same_trees n t.no_more = refl
+same_trees n (t.left_out xs) = same_trees n xs
+same_trees n (t.and_tree x xs) = strays_append n (tree_mentions x) (trees_mentions xs) ∙ ap (λ (m : ℕ). strays n (tree_mentions x) + m) (same_trees n xs)
 
-entries_same : (n : ℕ) (xs : List (Option Node)) → strays n (nodes_mentions xs) ≡ entries_weight (scale n) xs
-entries_same n [] = refl
-entries_same n (None ∷ xs) = let h = entries_same n xs in omega arith
-entries_same n (Some a ∷ xs) = let h = entries_same n xs in let i = strays_append n (node_mentions a) (nodes_mentions xs) in omega arith
-
-optional_same : (n : ℕ) (x : Option Node) → strays n (optional_mentions x) ≡ optional_weight (scale n) x
-optional_same n None = refl
-optional_same n (Some a) = refl
+same_argument : (n : ℕ) (x : Argument) → strays n (argument_mentions x) ≡ argument_weight (scale n) x
+same_argument n t.absent = refl
+same_argument n (t.given x) = refl
 
 even : (n : ℕ) → IsEven (scale n)
 even n = record {
-  of_numbers = λ p xs. (let e = count n p (v.Numbers xs) [] (names_Numbers xs p) in omega arith);
-  of_text = λ p cs. (let e = count n p (v.Text cs) [] (names_Text cs p) in omega arith);
-  of_name = λ p x. (let e = count n p (v.Name x) (mention x p false ∷ []) (names_Name x p) in omega arith);
-  of_text_input = λ p. (let e = count n p v.TextInput [] (names_TextInput p) in omega arith);
-  of_nums_input = λ p. (let e = count n p v.NumsInput [] (names_NumsInput p) in omega arith);
-  of_mono = λ p f a. (let e = count n p (v.Mono f a) (node_mentions a) (names_Mono f a p) in omega arith);
-  of_dyad = λ p f a b. (let e = count n p (v.Dyad f a b) (node_mentions a ++ node_mentions b) (names_Dyad f a b p) in let s = strays_append n (node_mentions a) (node_mentions b) in omega arith);
-  of_index = λ p a xs. (let e = count n p (v.Index a xs) (node_mentions a ++ nodes_mentions xs) (names_Index a xs p) in let s = strays_append n (node_mentions a) (nodes_mentions xs) in let t = entries_same n xs in omega arith);
-  of_assign = λ p x a. (let e = count n p (v.Assign x a) (mention x p true ∷ node_mentions a) (names_Assign x a p) in omega arith);
-  of_assign_at = λ p x xs a. (let e = count n p (v.AssignAt x xs a) (mention x p true ∷ (nodes_mentions xs ++ node_mentions a)) (names_AssignAt x xs a p) in
-      let s = strays_append n (nodes_mentions xs) (node_mentions a) in let t = entries_same n xs in omega arith);
-  of_show = λ p a. (let e = count n p (v.Show a) (node_mentions a) (names_Show a p) in omega arith);
-  of_call = λ p x a b. (let e = count n p (v.Call x a b) (mention x p false ∷ (optional_mentions a ++ optional_mentions b)) (names_Call x a b p) in
-      let s = strays_append n (optional_mentions a) (optional_mentions b) in let t = optional_same n a in let u = optional_same n b in omega arith);
+  of_numbers = λ i p xs. omega arith;
+  of_text = λ i p cs. omega arith;
+  of_name = λ i p m. omega arith;
+  of_text_input = λ i p. omega arith;
+  of_nums_input = λ i p. omega arith;
+  of_mono = λ i p f a. omega arith;
+  of_dyad = λ i p f a b. (let h = strays_append n (tree_mentions a) (tree_mentions b) in omega arith);
+  of_index = λ i p a xs. (let h = strays_append n (tree_mentions a) (trees_mentions xs) in let j = same_trees n xs in omega arith);
+  of_assign = λ i p m a. omega arith;
+  of_assign_at = λ i p m xs a. (let h = strays_append n (trees_mentions xs) (tree_mentions a) in let j = same_trees n xs in omega arith);
+  of_show = λ i p a. omega arith;
+  of_call = λ i p m a b. (let h = strays_append n (argument_mentions a) (argument_mentions b) in let j = same_argument n a in let k = same_argument n b in omega arith);
 }
 
 -- ---- Names of tokens

@@ -7,73 +7,52 @@ use Rattle.aplc_lex.specs.Tokens.{Rise}
 use Rattle.aplc_lex.specs.declared.token.Token.{Token}
 use Rattle.aplc_lex.specs.declared.token.TokenKind.{TokenKind}
 use Rattle.aplc_lex.specs.declared.token.TokenKind.TheVariants as k
-use Rattle.aplc_syntax.specs.declared.tree.NameId.{NameId}
-use Rattle.aplc_syntax.specs.declared.tree.Node.{Node}
-use Rattle.aplc_syntax.specs.declared.tree.Form.{Form, fold-Form}
-use Rattle.aplc_syntax.specs.declared.tree.Form.TheVariants as v
-use Rattle.aplc_syntax.specs.declared.tree.Form.TheOpen.{Form-F}
-use Rattle.aplc_syntax.specs.declared.tree.Form.TheFolds.{fold-roll-Form, fold_out-Node}
 use Rattle.aplc_syntax.specs.declared.tree.Statement.{Statement}
 use Rattle.aplc_syntax.specs.declared.tree.Statement.TheVariants as st
 use Rattle.aplc_syntax.specs.declared.tree.Function.{Function}
 use Rattle.aplc_syntax.specs.declared.tree.Line.{Line}
 use Rattle.aplc_syntax.specs.declared.tree.Program.{Program}
 use Rattle.aplc_syntax.specs.Words.{word_of, names_in, kind_of, slice, undoubled, text_between}
-use Rattle.aplc_syntax.specs.Trees.{node}
+use Rattle.aplc_syntax.specs.PlainTrees.{Trees, Argument}
+use Rattle.aplc_syntax.specs.PlainTrees as t
 use Rattle.aplc_syntax.proofs.Spans.{tokens_rise}
-use Rattle.aplc_names.specs.Literals.{added, form_elements, elements_step, elements_in, statement_elements, line_elements, function_elements, elements}
+use Rattle.aplc_names.specs.Literals.{tree_elements, trees_elements, argument_elements, statement_elements, line_elements, function_elements, elements}
 use Rattle.aplc_names.specs.Programs.{IsParsed}
 use Rattle.aplc_names.proofs.Symbols.{sign_weight}
-use Rattle.aplc_names.proofs.Weights.{Scale, IsEven, numbers_weight, optional_weight, entries_weight, statement_weight, lines_weight, functions_weight, weigh_program, kind_weight, weight}
+use Rattle.aplc_names.proofs.Weights.{Scale, IsEven, numbers_weight, argument_weight, trees_weight, statement_weight, lines_weight, functions_weight, weigh_program, kind_weight, weight}
 
 abbrev scale : Scale
-scale = record { number_weight = λ x. 1; text_weight = λ cs. length cs; name_weight = λ n. 0; node_weight = λ n. elements_in n }
+scale = record { number_weight = λ x. 1; text_weight = λ cs. length cs; name_weight = λ n. 0; tree_weight = tree_elements }
 
 -- ---- Forms
-
-abbrev held : Form → ℕ
-held x = fold-Form ℕ ℕ form_elements elements_step x
-
-count : (p : ℕ) (x : Form) (n : ℕ) → held x ≡ n → elements_in (node p x) ≡ n
-count p x n e = fold_out-Node ℕ ℕ form_elements elements_step (node p x) ∙ e
 
 same_length : (xs : List ℤ) → length xs ≡ numbers_weight scale xs
 same_length [] = refl
 same_length (x ∷ xs) = let h = same_length xs in omega arith
 
-entries_same : (f : Option Node → Option ℕ) (xs : List (Option Node)) → f None ≡ None → ((n : Node) → f (Some n) ≡ Some (elements_in n)) → added (map f xs) ≡ entries_weight scale xs
-entries_same f [] h i = refl
-entries_same f (None ∷ xs) h i = let e = ap (λ x. added (x ∷ map f xs)) h in let j = entries_same f xs h i in omega arith
-entries_same f (Some n ∷ xs) h i = let e = ap (λ x. added (x ∷ map f xs)) (i n) in let j = entries_same f xs h i in omega arith
+same_trees : (xs : Trees) → trees_elements xs ≡ trees_weight scale xs
+same_trees t.no_more = refl
+same_trees (t.left_out xs) = same_trees xs
+same_trees (t.and_tree x xs) = ap (λ (n : ℕ). tree_elements x + n) (same_trees xs)
 
-of_index : (p : ℕ) (a : Node) (xs : List (Option Node)) (f : Option Node → Option ℕ) → f None ≡ None → ((n : Node) → f (Some n) ≡ Some (elements_in n)) → held (v.Index a xs) ≡ elements_in a + added (map f xs)
-    → elements_in (node p (v.Index a xs)) ≤ elements_in a + entries_weight scale xs
-of_index p a xs f h i j = let e = count p (v.Index a xs) (elements_in a + added (map f xs)) j in let t = entries_same f xs h i in omega arith
-
-of_assign_at : (p : ℕ) (n : NameId) (xs : List (Option Node)) (a : Node) (f : Option Node → Option ℕ) → f None ≡ None → ((m : Node) → f (Some m) ≡ Some (elements_in m)) → held (v.AssignAt n xs a) ≡ added (map f xs) + elements_in a
-    → elements_in (node p (v.AssignAt n xs a)) ≤ 0 + (entries_weight scale xs + elements_in a)
-of_assign_at p n xs a f h i j = let e = count p (v.AssignAt n xs a) (added (map f xs) + elements_in a) j in let t = entries_same f xs h i in omega arith
-
-of_call : (p : ℕ) (n : NameId) (a b : Option Node) → elements_in (node p (v.Call n a b)) ≤ 0 + (optional_weight scale a + optional_weight scale b)
-of_call p n None None = let e = count p (v.Call n None None) 0 (ap held (sym (v.rolls-Call n None None)) ∙ fold-roll-Form ℕ ℕ form_elements elements_step (Form-F.Call n None None)) in omega arith
-of_call p n None (Some b) = let e = count p (v.Call n None (Some b)) (elements_in b + 0) (ap held (sym (v.rolls-Call n None (Some b))) ∙ fold-roll-Form ℕ ℕ form_elements elements_step (Form-F.Call n None (Some b))) in omega arith
-of_call p n (Some a) None = let e = count p (v.Call n (Some a) None) (elements_in a + 0) (ap held (sym (v.rolls-Call n (Some a) None)) ∙ fold-roll-Form ℕ ℕ form_elements elements_step (Form-F.Call n (Some a) None)) in omega arith
-of_call p n (Some a) (Some b) = let e = count p (v.Call n (Some a) (Some b)) (elements_in a + (elements_in b + 0)) (ap held (sym (v.rolls-Call n (Some a) (Some b))) ∙ fold-roll-Form ℕ ℕ form_elements elements_step (Form-F.Call n (Some a) (Some b))) in omega arith
+same_argument : (x : Argument) → argument_elements x ≡ argument_weight scale x
+same_argument t.absent = refl
+same_argument (t.given x) = refl
 
 even : IsEven scale
 even = record {
-  of_numbers = λ p xs. (let e = count p (v.Numbers xs) (length xs) (ap held (sym (v.rolls-Numbers xs)) ∙ fold-roll-Form ℕ ℕ form_elements elements_step (Form-F.Numbers xs)) in let s = same_length xs in omega arith);
-  of_text = λ p cs. (let e = count p (v.Text cs) (length cs) (ap held (sym (v.rolls-Text cs)) ∙ fold-roll-Form ℕ ℕ form_elements elements_step (Form-F.Text cs)) in omega arith);
-  of_name = λ p n. (let e = count p (v.Name n) 0 (ap held (sym (v.rolls-Name n)) ∙ fold-roll-Form ℕ ℕ form_elements elements_step (Form-F.Name n)) in omega arith);
-  of_text_input = λ p. (let e = count p v.TextInput 0 (ap held (sym v.rolls-TextInput) ∙ fold-roll-Form ℕ ℕ form_elements elements_step Form-F.TextInput) in omega arith);
-  of_nums_input = λ p. (let e = count p v.NumsInput 0 (ap held (sym v.rolls-NumsInput) ∙ fold-roll-Form ℕ ℕ form_elements elements_step Form-F.NumsInput) in omega arith);
-  of_mono = λ p f a. (let e = count p (v.Mono f a) (elements_in a) (ap held (sym (v.rolls-Mono f a)) ∙ fold-roll-Form ℕ ℕ form_elements elements_step (Form-F.Mono f a)) in omega arith);
-  of_dyad = λ p f a b. (let e = count p (v.Dyad f a b) (elements_in a + elements_in b) (ap held (sym (v.rolls-Dyad f a b)) ∙ fold-roll-Form ℕ ℕ form_elements elements_step (Form-F.Dyad f a b)) in omega arith);
-  of_index = λ p a xs. of_index p a xs _ refl (λ n. refl) (ap held (sym (v.rolls-Index a xs)) ∙ fold-roll-Form ℕ ℕ form_elements elements_step (Form-F.Index a xs));
-  of_assign = λ p n a. (let e = count p (v.Assign n a) (elements_in a) (ap held (sym (v.rolls-Assign n a)) ∙ fold-roll-Form ℕ ℕ form_elements elements_step (Form-F.Assign n a)) in omega arith);
-  of_assign_at = λ p n xs a. of_assign_at p n xs a _ refl (λ m. refl) (ap held (sym (v.rolls-AssignAt n xs a)) ∙ fold-roll-Form ℕ ℕ form_elements elements_step (Form-F.AssignAt n xs a));
-  of_show = λ p a. (let e = count p (v.Show a) (elements_in a) (ap held (sym (v.rolls-Show a)) ∙ fold-roll-Form ℕ ℕ form_elements elements_step (Form-F.Show a)) in omega arith);
-  of_call = of_call;
+  of_numbers = λ i p xs. (let h = same_length xs in omega arith);
+  of_text = λ i p cs. omega arith;
+  of_name = λ i p n. omega arith;
+  of_text_input = λ i p. omega arith;
+  of_nums_input = λ i p. omega arith;
+  of_mono = λ i p f a. omega arith;
+  of_dyad = λ i p f a b. omega arith;
+  of_index = λ i p a xs. (let h = same_trees xs in omega arith);
+  of_assign = λ i p n a. omega arith;
+  of_assign_at = λ i p n xs a. (let h = same_trees xs in omega arith);
+  of_show = λ i p a. omega arith;
+  of_call = λ i p n a b. (let h = same_argument a in let j = same_argument b in omega arith);
 }
 
 -- ---- Texts

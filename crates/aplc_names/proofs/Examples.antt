@@ -1,5 +1,5 @@
 -- Small programs whose names clash, computed.
-use Rattle.std.proofs.Common.{◌≡◌, sym, subst, refl, ℕ, List, [], ◌∷◌, None, true, false, arith, pos}
+use Rattle.std.proofs.Common.{◌≡◌, ◌∙◌, ◌++◌, sym, ap, ap₂, subst, refl, ℕ, List, [], ◌∷◌, None, Some, true, false, arith, pos}
 use Rattle.std.specs.Prelude.{codes}
 use Rattle.aplc_lex.specs.Tokens.{refusal}
 use Rattle.aplc_syntax.specs.declared.tree.Form.TheVariants as v
@@ -12,10 +12,12 @@ use Rattle.aplc_syntax.specs.Layout.{named}
 use Rattle.aplc_names.specs.declared.outline.Mention.{Mention}
 use Rattle.aplc_names.specs.declared.outline.Outline.{Outline}
 use Rattle.aplc_names.specs.declared.scope.Scope.TheVariants as scope
-use Rattle.aplc_names.specs.Outlines.{mention, outlines}
-use Rattle.aplc_names.specs.Scopes.{function_names, scope_in, Leads, directly, over}
+use Rattle.aplc_syntax.specs.PlainTrees.{Tree}
+use Rattle.aplc_syntax.specs.PlainTrees as t
+use Rattle.aplc_names.specs.Outlines.{mention, outlines, lines_mentions, tree_mentions}
+use Rattle.aplc_names.specs.Scopes.{function_names, scope_of, start_of, Leads, directly, over}
 use Rattle.aplc_names.specs.Clashes.{StandsAmong, function_again, var_again, var_taken, mainless, in_function, in_shadow, local_again, local_taken, name_assigned, Stands}
-use Rattle.aplc_names.proofs.Equations.{node_equation, form_equations}
+use Rattle.aplc_syntax.proofs.PlainForms.{numbers_node, name_node, assign_node, call_node}
 
 abbrev said : ℕ → ℕ → Mention
 said n p = mention (name_id n) p false
@@ -25,7 +27,7 @@ given n p = mention (name_id n) p true
 
 -- a function without arguments, result and labels
 abbrev plain : ℕ → ℕ → List Named → List Mention → Outline
-plain n p locals mentions = record { name = named n p; bare = true; locals = locals; labels = []; lines = []; mentions = mentions }
+plain n p locals mentions = record { name = named n p; bare = true; locals = locals; labels = []; mentions = mentions }
 
 -- a refusal of functions and declared names, where names 0, 1 and 2 are MAIN, X and F
 abbrev Refuses : List Named → List Outline → ℕ → ℕ → Type 0
@@ -125,7 +127,7 @@ no_function_main = mainless (record { none = refl; is = refl })
 
 -- a function MAIN with an argument
 abbrev wanting : Outline
-wanting = record { name = named 0 3; bare = false; locals = named 1 8 ∷ []; labels = []; lines = []; mentions = [] }
+wanting = record { name = named 0 3; bare = false; locals = named 1 8 ∷ []; labels = []; mentions = [] }
 
 pub main_with_argument : Refuses [] (wanting ∷ []) 15 3
 main_with_argument = mainless (record { none = refl; is = refl })
@@ -134,7 +136,7 @@ main_with_argument = mainless (record { none = refl; is = refl })
 
 -- the label X of line 2 is assigned in line 1
 abbrev labelled : Outline
-labelled = record { name = named 0 3; bare = true; locals = named 1 14 ∷ []; labels = named 1 14 ∷ []; lines = pos 2 ∷ []; mentions = given 1 8 ∷ said 1 14 ∷ [] }
+labelled = record { name = named 0 3; bare = true; locals = named 1 14 ∷ []; labels = named 1 14 ∷ []; mentions = given 1 8 ∷ said 1 14 ∷ [] }
 
 pub label_assigned : Refuses [] (labelled ∷ []) 16 8
 label_assigned = in_function (record { index = 0; item = labelled; found = refl; gives = name_assigned (record { index = 0; item = given 1 8; found = refl; gives = record { changed = refl; fixed = refl; is = refl } }) })
@@ -142,20 +144,6 @@ label_assigned = in_function (record { index = 0; item = labelled; found = refl;
 -- MAIN assigns MAIN
 pub function_assigned : Refuses [] (plain 0 3 [] (given 0 8 ∷ []) ∷ []) 16 8
 function_assigned = in_function (record { index = 0; item = plain 0 3 [] (given 0 8 ∷ []); found = refl; gives = name_assigned (record { index = 0; item = given 0 8; found = refl; gives = record { changed = refl; fixed = refl; is = refl } }) })
-
--- ---- Scopes
-
-pub scope_of_function : scope_in (named 0 3 ∷ named 2 25 ∷ []) caller 2 ≡ scope.Function 1
-scope_of_function = refl
-
-pub scope_of_local : scope_in (named 0 3 ∷ named 2 25 ∷ []) caller 1 ≡ scope.Local
-scope_of_local = refl
-
-pub scope_of_label : scope_in (named 0 3 ∷ []) labelled 1 ≡ scope.Label (pos 2)
-scope_of_label = refl
-
-pub scope_of_global : scope_in (named 0 3 ∷ named 2 25 ∷ []) user 1 ≡ scope.Global
-scope_of_global = refl
 
 -- ---- A whole program
 
@@ -185,8 +173,50 @@ user_function = record {
 abbrev hiding : Program
 hiding = record { names = codes "MAIN" ∷ codes "X" ∷ codes "F" ∷ codes "G" ∷ []; origin = pos 1; vars = []; functions = main_function ∷ user_function ∷ [] }
 
+main_mentions : lines_mentions main_function.lines ≡ given 1 10 ∷ said 2 16 ∷ []
+main_mentions = ap₂ (λ (x y : Tree). tree_mentions x ++ (tree_mentions y ++ [])) (assign_node 10 1 (node 14 (v.Numbers (pos 1 ∷ []))) ∙ ap (t.Assign 10 10 1) (numbers_node 14 (pos 1 ∷ []))) (call_node 16 2 None None)
+
+user_mentions : lines_mentions user_function.lines ≡ said 1 27 ∷ []
+user_mentions = ap (λ (x : Tree). tree_mentions x ++ []) (name_node 27 1)
+
 hiding_outlines : outlines hiding ≡ caller ∷ user ∷ []
-hiding_outlines = simp (node_equation, form_equations)
+hiding_outlines = ap₂ (λ (x y : List Mention). plain 0 3 (named 1 8 ∷ []) x ∷ plain 2 25 [] y ∷ []) main_mentions user_mentions
 
 pub shadow_at_27 : Stands hiding (refusal 14 27)
 shadow_at_27 = subst (λ fs. Refuses [] fs 14 27) (sym hiding_outlines) hidden_name
+
+-- ---- Scopes
+
+-- ∇LOOP;X, 1, X:1, X:2, ∇, with name 3 as LOOP
+abbrev looping : Function
+looping = record {
+  name = named 3 41;
+  result = None;
+  left = None;
+  right = None;
+  locals = named 4 46 ∷ [];
+  lines =
+      record { label = None; statement = st.Empty } ∷
+      record { label = Some (named 1 50); statement = st.Empty } ∷
+      record { label = Some (named 1 54); statement = st.Empty } ∷ [];
+}
+
+abbrev looped : Program
+looped = record { names = codes "MAIN" ∷ codes "X" ∷ codes "F" ∷ codes "LOOP" ∷ codes "Y" ∷ []; origin = pos 1; vars = []; functions = user_function ∷ main_function ∷ looping ∷ [] }
+
+pub scope_of_function : scope_of looped 1 2 ≡ scope.Function 0
+scope_of_function = refl
+
+pub scope_of_local : scope_of looped 1 1 ≡ scope.Local
+scope_of_local = refl
+
+-- X is the label of lines 2 and 3 here, and the first counts
+pub scope_of_label : scope_of looped 2 1 ≡ scope.Label (pos 2)
+scope_of_label = refl
+
+pub scope_of_global : scope_of looped 0 1 ≡ scope.Global
+scope_of_global = refl
+
+-- MAIN is the second function
+pub starts_at : start_of looped ≡ Some 1
+starts_at = refl

@@ -30,7 +30,7 @@ below_or a b = grind arith
 less : (i k : ℕ) → i < k → nat_lt i k ≡ true
 less i k h = grind (arith, nat_tests)
 
-turned : (b : Bool) (a : ℕ) → cond (not b) (1 + a) 0 ≡ cond b 0 (suc a)
+pub turned : (b : Bool) (a : ℕ) → cond (not b) (1 + a) 0 ≡ cond b 0 (suc a)
 turned true a = refl
 turned false a = omega arith
 

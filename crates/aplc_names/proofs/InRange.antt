@@ -6,23 +6,18 @@ use Rattle.aplc_scalar.specs.Scalar.{in_range}
 use Rattle.aplc_lex.specs.declared.token.Token.{Token}
 use Rattle.aplc_lex.specs.declared.token.TokenKind.{TokenKind}
 use Rattle.aplc_lex.specs.declared.token.TokenKind.TheVariants as k
-use Rattle.aplc_syntax.specs.declared.tree.NameId.{NameId}
-use Rattle.aplc_syntax.specs.declared.tree.Node.{Node}
-use Rattle.aplc_syntax.specs.declared.tree.Form.{Form, fold-Form}
-use Rattle.aplc_syntax.specs.declared.tree.Form.TheVariants as v
-use Rattle.aplc_syntax.specs.declared.tree.Form.TheOpen.{Form-F}
-use Rattle.aplc_syntax.specs.declared.tree.Form.TheFolds.{fold-roll-Form, fold_out-Node}
 use Rattle.aplc_syntax.specs.declared.tree.Statement.{Statement}
 use Rattle.aplc_syntax.specs.declared.tree.Statement.TheVariants as st
 use Rattle.aplc_syntax.specs.declared.tree.Function.{Function}
 use Rattle.aplc_syntax.specs.declared.tree.Line.{Line}
 use Rattle.aplc_syntax.specs.declared.tree.Program.{Program}
 use Rattle.aplc_syntax.specs.Words.{word_of, names_in, kind_of}
-use Rattle.aplc_syntax.specs.Trees.{node}
-use Rattle.aplc_names.specs.Literals.{joined, form_numbers, numbers_step, numbers_in, statement_numbers, HasNumbersInRange}
+use Rattle.aplc_syntax.specs.PlainTrees.{Trees, Argument}
+use Rattle.aplc_syntax.specs.PlainTrees as t
+use Rattle.aplc_names.specs.Literals.{tree_numbers, trees_numbers, argument_numbers, statement_numbers, HasNumbersInRange}
 use Rattle.aplc_names.specs.Programs.{IsParsed}
 use Rattle.aplc_names.proofs.Ranges.{IsRanged, IsRangedToken, ranged_tokens}
-use Rattle.aplc_names.proofs.Weights.{Scale, IsEven, numbers_weight, optional_weight, entries_weight, statement_weight, lines_weight, functions_weight, weigh_program, kind_weight, weight}
+use Rattle.aplc_names.proofs.Weights.{Scale, IsEven, numbers_weight, argument_weight, trees_weight, statement_weight, lines_weight, functions_weight, weigh_program, kind_weight, weight}
 use Rattle.aplc_names.proofs.Symbols.{sign_weight}
 
 -- ---- Numbers that are out of range
@@ -63,68 +58,37 @@ none_wide [] e = All-nil IsInside
 none_wide (x ∷ xs) e = All-cons IsInside x xs (inside x (omega arith)) (none_wide xs (omega arith))
 
 abbrev scale : Scale
-scale = record { number_weight = out_of_range; text_weight = λ cs. 0; name_weight = λ n. 0; node_weight = λ n. wide (numbers_in n) }
+scale = record { number_weight = out_of_range; text_weight = λ cs. 0; name_weight = λ n. 0; tree_weight = λ x. wide (tree_numbers x) }
 
 -- ---- Forms
-
-abbrev held : Form → List ℤ
-held x = fold-Form (List ℤ) (List ℤ) form_numbers numbers_step x
-
-count : (p : ℕ) (x : Form) (xs : List ℤ) → held x ≡ xs → wide (numbers_in (node p x)) ≡ wide xs
-count p x xs e = ap wide (fold_out-Node (List ℤ) (List ℤ) form_numbers numbers_step (node p x) ∙ e)
 
 same_numbers : (xs : List ℤ) → wide xs ≡ numbers_weight scale xs
 same_numbers [] = refl
 same_numbers (x ∷ xs) = ap (λ (n : ℕ). out_of_range x + n) (same_numbers xs)
 
-entries_same : (f : Option Node → Option (List ℤ)) (xs : List (Option Node)) → f None ≡ None → ((n : Node) → f (Some n) ≡ Some (numbers_in n)) → wide (joined (map f xs)) ≡ entries_weight scale xs
-entries_same f [] h i = refl
-entries_same f (None ∷ xs) h i = ap (λ x. wide (joined (x ∷ map f xs))) h ∙ entries_same f xs h i ∙ none (entries_weight scale xs)
-  where
-    none : (n : ℕ) → n ≡ 0 + n
-    none n = omega arith
-entries_same f (Some n ∷ xs) h i = ap (λ x. wide (joined (x ∷ map f xs))) (i n) ∙ wide_append (numbers_in n) (joined (map f xs)) ∙ ap (λ m. wide (numbers_in n) + m) (entries_same f xs h i)
+same_trees : (xs : Trees) → wide (trees_numbers xs) ≡ trees_weight scale xs
+same_trees t.no_more = refl
+same_trees (t.left_out xs) = same_trees xs
+same_trees (t.and_tree x xs) = wide_append (tree_numbers x) (trees_numbers xs) ∙ ap (λ (n : ℕ). wide (tree_numbers x) + n) (same_trees xs)
 
-of_index : (p : ℕ) (a : Node) (xs : List (Option Node)) (f : Option Node → Option (List ℤ)) → f None ≡ None → ((n : Node) → f (Some n) ≡ Some (numbers_in n)) → held (v.Index a xs) ≡ numbers_in a ++ joined (map f xs)
-    → wide (numbers_in (node p (v.Index a xs))) ≤ wide (numbers_in a) + entries_weight scale xs
-of_index p a xs f h i j =
-    let e = count p (v.Index a xs) (numbers_in a ++ joined (map f xs)) j in
-    let s = wide_append (numbers_in a) (joined (map f xs)) in
-    let t = entries_same f xs h i in
-    omega arith
-
-of_assign_at : (p : ℕ) (n : NameId) (xs : List (Option Node)) (a : Node) (f : Option Node → Option (List ℤ)) → f None ≡ None → ((m : Node) → f (Some m) ≡ Some (numbers_in m)) → held (v.AssignAt n xs a) ≡ joined (map f xs) ++ numbers_in a
-    → wide (numbers_in (node p (v.AssignAt n xs a))) ≤ 0 + (entries_weight scale xs + wide (numbers_in a))
-of_assign_at p n xs a f h i j =
-    let e = count p (v.AssignAt n xs a) (joined (map f xs) ++ numbers_in a) j in
-    let s = wide_append (joined (map f xs)) (numbers_in a) in
-    let t = entries_same f xs h i in
-    omega arith
-
-of_call : (p : ℕ) (n : NameId) (a b : Option Node) → wide (numbers_in (node p (v.Call n a b))) ≤ 0 + (optional_weight scale a + optional_weight scale b)
-of_call p n None None = let e = count p (v.Call n None None) [] (ap held (sym (v.rolls-Call n None None)) ∙ fold-roll-Form (List ℤ) (List ℤ) form_numbers numbers_step (Form-F.Call n None None)) in omega arith
-of_call p n None (Some b) = let e = count p (v.Call n None (Some b)) (numbers_in b ++ []) (ap held (sym (v.rolls-Call n None (Some b))) ∙ fold-roll-Form (List ℤ) (List ℤ) form_numbers numbers_step (Form-F.Call n None (Some b))) in
-    let s = wide_append (numbers_in b) [] in omega arith
-of_call p n (Some a) None = let e = count p (v.Call n (Some a) None) (numbers_in a ++ []) (ap held (sym (v.rolls-Call n (Some a) None)) ∙ fold-roll-Form (List ℤ) (List ℤ) form_numbers numbers_step (Form-F.Call n (Some a) None)) in
-    let s = wide_append (numbers_in a) [] in omega arith
-of_call p n (Some a) (Some b) = let e = count p (v.Call n (Some a) (Some b)) (numbers_in a ++ (numbers_in b ++ [])) (ap held (sym (v.rolls-Call n (Some a) (Some b))) ∙ fold-roll-Form (List ℤ) (List ℤ) form_numbers numbers_step (Form-F.Call n (Some a) (Some b))) in
-    let s = wide_append (numbers_in a) (numbers_in b ++ []) in let t = wide_append (numbers_in b) [] in omega arith
+same_argument : (x : Argument) → wide (argument_numbers x) ≡ argument_weight scale x
+same_argument t.absent = refl
+same_argument (t.given x) = refl
 
 even : IsEven scale
 even = record {
-  of_numbers = λ p xs. (let e = count p (v.Numbers xs) xs (ap held (sym (v.rolls-Numbers xs)) ∙ fold-roll-Form (List ℤ) (List ℤ) form_numbers numbers_step (Form-F.Numbers xs)) in let s = same_numbers xs in omega arith);
-  of_text = λ p cs. (let e = count p (v.Text cs) [] (ap held (sym (v.rolls-Text cs)) ∙ fold-roll-Form (List ℤ) (List ℤ) form_numbers numbers_step (Form-F.Text cs)) in omega arith);
-  of_name = λ p n. (let e = count p (v.Name n) [] (ap held (sym (v.rolls-Name n)) ∙ fold-roll-Form (List ℤ) (List ℤ) form_numbers numbers_step (Form-F.Name n)) in omega arith);
-  of_text_input = λ p. (let e = count p v.TextInput [] (ap held (sym v.rolls-TextInput) ∙ fold-roll-Form (List ℤ) (List ℤ) form_numbers numbers_step Form-F.TextInput) in omega arith);
-  of_nums_input = λ p. (let e = count p v.NumsInput [] (ap held (sym v.rolls-NumsInput) ∙ fold-roll-Form (List ℤ) (List ℤ) form_numbers numbers_step Form-F.NumsInput) in omega arith);
-  of_mono = λ p f a. (let e = count p (v.Mono f a) (numbers_in a) (ap held (sym (v.rolls-Mono f a)) ∙ fold-roll-Form (List ℤ) (List ℤ) form_numbers numbers_step (Form-F.Mono f a)) in omega arith);
-  of_dyad = λ p f a b. (let e = count p (v.Dyad f a b) (numbers_in a ++ numbers_in b) (ap held (sym (v.rolls-Dyad f a b)) ∙ fold-roll-Form (List ℤ) (List ℤ) form_numbers numbers_step (Form-F.Dyad f a b)) in
-      let s = wide_append (numbers_in a) (numbers_in b) in omega arith);
-  of_index = λ p a xs. of_index p a xs _ refl (λ n. refl) (ap held (sym (v.rolls-Index a xs)) ∙ fold-roll-Form (List ℤ) (List ℤ) form_numbers numbers_step (Form-F.Index a xs));
-  of_assign = λ p n a. (let e = count p (v.Assign n a) (numbers_in a) (ap held (sym (v.rolls-Assign n a)) ∙ fold-roll-Form (List ℤ) (List ℤ) form_numbers numbers_step (Form-F.Assign n a)) in omega arith);
-  of_assign_at = λ p n xs a. of_assign_at p n xs a _ refl (λ m. refl) (ap held (sym (v.rolls-AssignAt n xs a)) ∙ fold-roll-Form (List ℤ) (List ℤ) form_numbers numbers_step (Form-F.AssignAt n xs a));
-  of_show = λ p a. (let e = count p (v.Show a) (numbers_in a) (ap held (sym (v.rolls-Show a)) ∙ fold-roll-Form (List ℤ) (List ℤ) form_numbers numbers_step (Form-F.Show a)) in omega arith);
-  of_call = of_call;
+  of_numbers = λ i p xs. (let h = same_numbers xs in omega arith);
+  of_text = λ i p cs. omega arith;
+  of_name = λ i p n. omega arith;
+  of_text_input = λ i p. omega arith;
+  of_nums_input = λ i p. omega arith;
+  of_mono = λ i p f a. omega arith;
+  of_dyad = λ i p f a b. (let h = wide_append (tree_numbers a) (tree_numbers b) in omega arith);
+  of_index = λ i p a xs. (let h = wide_append (tree_numbers a) (trees_numbers xs) in let j = same_trees xs in omega arith);
+  of_assign = λ i p n a. omega arith;
+  of_assign_at = λ i p n xs a. (let h = wide_append (trees_numbers xs) (tree_numbers a) in let j = same_trees xs in omega arith);
+  of_show = λ i p a. omega arith;
+  of_call = λ i p n a b. (let h = wide_append (argument_numbers a) (argument_numbers b) in let j = same_argument a in let k = same_argument b in omega arith);
 }
 
 -- ---- Words

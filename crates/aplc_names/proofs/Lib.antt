@@ -1,5 +1,4 @@
 pub mod Firsts
-pub mod Equations
 pub mod Minima
 pub mod Lists
 pub mod Reached
@@ -16,3 +15,10 @@ pub mod Elements
 pub mod Headers
 pub mod Below
 pub mod SumForms
+pub mod Scoped
+mod Fitting
+mod FittingPrograms
+mod Declared
+mod SpelledNames
+mod NumberedNodes
+mod Grammatical

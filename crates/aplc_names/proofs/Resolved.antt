@@ -1,5 +1,5 @@
 -- The first refusal of a program, and what its text says of its sizes.
-use Rattle.std.proofs.Common.{◌≡◌, ◌∙◌, sym, ap, refl, subst, ℕ, ◌<◌, ◌≤◌, List, [], ◌∷◌, length, Option, Some, arith, get_or, inl, inr, ◌⊎◌}
+use Rattle.std.proofs.Common.{◌≡◌, ◌∙◌, sym, ap, refl, subst, ℕ, ◌<◌, ◌≤◌, List, [], ◌∷◌, length, ℤ, Option, Some, arith, get_or, inl, inr, ◌⊎◌}
 use Rattle.std.specs.Prelude.{map, All}
 use Rattle.std.specs.List.{AllZip, slice_get}
 use Rattle.std.proofs.lemmas.Option.{slice_get_read}
@@ -14,8 +14,8 @@ use Rattle.aplc_syntax.specs.Layout.{Block, Header, blocks, headers, parts_of}
 use Rattle.aplc_syntax.specs.Programs.{IsFunction, IsLine}
 use Rattle.aplc_names.specs.declared.outline.Outline.{Outline}
 use Rattle.aplc_names.specs.Outlines.{outline, outlines}
-use Rattle.aplc_names.specs.Scopes.{function_names, own_name, scope_in, IsScope}
-use Rattle.aplc_names.specs.declared.scope.Scope.{Scope}
+use Rattle.aplc_names.specs.Scopes.{function_names, own_name}
+use Rattle.aplc_names.specs.Lookups.{label_lines, all_label_lines}
 use Rattle.aplc_names.specs.Firsts.{Somewhere, IsFirstOf, earlier}
 use Rattle.aplc_names.specs.Clashes.{IsAgain, IsTaken, IsMainless, IsShadowedIn, StandsIn, StandsAmong, function_again, var_again, var_taken, mainless, in_function, in_shadow, Stands, var_name}
 use Rattle.aplc_names.specs.Programs.{IsParsed}
@@ -98,7 +98,8 @@ few_heads p hs e h =
     let k : length hs ≡ length p.functions = ap length e ∙ length-map (outlines p) own_name ∙ length-map p.functions outline in
     omega arith
 
-pub is_scope : (p q : Program) (hs : List Named) (fs known : List Outline) (i n : ℕ) (f : Outline) (s : Scope) → p ≡ q → hs ≡ function_names (outlines p) → fs ≡ outlines p → known ≡ fs → i < length known → f ≡ get_or known i f → s ≡ scope_in hs f n → IsScope q i n s
-is_scope p q hs fs known i n f s e heads all k h item is =
-    let found : slice_get known i ≡ Some f = slice_get_read known (length known) i f refl h item in
-    subst (λ x. IsScope x i n s) e (f, subst (λ x. slice_get x i ≡ Some f) (k ∙ all) found, is ∙ ap (λ x. scope_in x f n) heads)
+pub within_lines : (p q : Program) (ls all : List (List ℤ)) (i : ℕ) → p ≡ q → ls ≡ all_label_lines p → all ≡ ls → i < length q.functions → i < length all
+within_lines p q ls all i e f g h =
+    let k : length all ≡ length p.functions = ap length (g ∙ f) ∙ length-map p.functions label_lines in
+    let l : length p.functions ≡ length q.functions = ap (λ (x : Program). length x.functions) e in
+    omega arith

@@ -3,7 +3,6 @@ use Rattle.std.proofs.Common.{◌≡◌, ℕ, ◌+◌, ◌≤◌, List, [], ◌�
 use Rattle.std.specs.List.{AllZip}
 use Rattle.aplc_scalar.specs.declared.function.ScalarFn.TheVariants as sf
 use Rattle.aplc_lex.specs.declared.token.Token.{Token}
-use Rattle.aplc_syntax.specs.declared.tree.NameId.{NameId}
 use Rattle.aplc_syntax.specs.declared.tree.Named.{Named}
 use Rattle.aplc_syntax.specs.declared.tree.Primitive.{Primitive}
 use Rattle.aplc_syntax.specs.declared.tree.Primitive.TheVariants as pr
@@ -22,8 +21,11 @@ use Rattle.aplc_syntax.specs.declared.word.WordKind.TheVariants as w
 use Rattle.aplc_syntax.specs.Grammar.{F, arith_fn, compare_fn, X, no_axis, axis, M, arith1, not1, both1, turn1, reduce, call1, D, scalar2, both2, dyadic2, turn2, copies, outer, inner, call2, N, no_number, number, S, numbers, literal, variable, call0, text_input, nums_input, E, operand, before, between, assign, assign_at, show, O, simple, paren, index, L, last_gap, last_entry, gap, entry, Sentence, value, branch, perform0, perform1, perform2, spell, spell_F, spell_X, spell_M, spell_D, spell_N, spell_S, spell_E, spell_O, spell_L}
 use Rattle.aplc_syntax.specs.Words.{word, words, text_between}
 use Rattle.aplc_syntax.specs.Trees.{node, name_id, scalar_of, axis_of, reduction, copying, numbers_of, apply1, apply2, tree_S, tree_E, tree_O, trees_L, valued, statement_of}
+use Rattle.aplc_syntax.specs.PlainTrees.{Tree, Trees, Argument, tree_of, trees_in, argument_in}
+use Rattle.aplc_syntax.specs.PlainTrees as t
 use Rattle.aplc_syntax.specs.Layout.{Row, Rows, before_rows, cut, lines, begins_with_del, Block, part, parts, outside, function, Part, blocks, Header, kind_in, word_in, placed, label, label_of, sentence, headers, parts_of}
 use Rattle.aplc_syntax.specs.Programs.{IsStatement, IsLine, IsFunction, IsProgramOf}
+use Rattle.aplc_syntax.proofs.PlainForms.{numbers_node, text_node, name_node, text_input_node, nums_input_node, mono_node, dyad_node, index_node, assign_node, assign_at_node, show_node, call_node}
 
 -- ---- Words
 
@@ -32,7 +34,7 @@ pub record Scale : Type 0 where
   pub number_weight : ℤ → ℕ
   pub text_weight : List ℕ → ℕ
   pub name_weight : ℕ → ℕ
-  pub node_weight : Node → ℕ
+  pub tree_weight : Tree → ℕ
 
 -- the weight of a word at place p of a text
 abbrev pub kind_weight : Scale → List ℕ → ℕ → WordKind → ℕ
@@ -51,28 +53,41 @@ numbers_weight g (x ∷ xs) = g.number_weight x + numbers_weight g xs
 
 -- ---- Trees
 
-abbrev pub optional_weight : Scale → Option Node → ℕ
-optional_weight g None = 0
-optional_weight g (Some n) = g.node_weight n
+abbrev pub argument_weight : Scale → Argument → ℕ
+argument_weight g t.absent = 0
+argument_weight g (t.given x) = g.tree_weight x
 
-abbrev pub entries_weight : Scale → List (Option Node) → ℕ
-entries_weight g [] = 0
-entries_weight g (x ∷ xs) = optional_weight g x + entries_weight g xs
+abbrev pub trees_weight : Scale → Trees → ℕ
+trees_weight g t.no_more = 0
+trees_weight g (t.left_out xs) = trees_weight g xs
+trees_weight g (t.and_tree x xs) = g.tree_weight x + trees_weight g xs
 
 -- a tree weighs no more than its parts
 pub record IsEven (g : Scale) : Type 0 where
-  pub of_numbers : (p : ℕ) (xs : List ℤ) → g.node_weight (node p (v.Numbers xs)) ≤ numbers_weight g xs
-  pub of_text : (p : ℕ) (cs : List ℕ) → g.node_weight (node p (v.Text cs)) ≤ g.text_weight cs
-  pub of_name : (p : ℕ) (n : NameId) → g.node_weight (node p (v.Name n)) ≤ g.name_weight n.0
-  pub of_text_input : (p : ℕ) → g.node_weight (node p v.TextInput) ≤ 0
-  pub of_nums_input : (p : ℕ) → g.node_weight (node p v.NumsInput) ≤ 0
-  pub of_mono : (p : ℕ) (f : Primitive) (a : Node) → g.node_weight (node p (v.Mono f a)) ≤ g.node_weight a
-  pub of_dyad : (p : ℕ) (f : Primitive) (a b : Node) → g.node_weight (node p (v.Dyad f a b)) ≤ g.node_weight a + g.node_weight b
-  pub of_index : (p : ℕ) (a : Node) (xs : List (Option Node)) → g.node_weight (node p (v.Index a xs)) ≤ g.node_weight a + entries_weight g xs
-  pub of_assign : (p : ℕ) (n : NameId) (a : Node) → g.node_weight (node p (v.Assign n a)) ≤ g.name_weight n.0 + g.node_weight a
-  pub of_assign_at : (p : ℕ) (n : NameId) (xs : List (Option Node)) (a : Node) → g.node_weight (node p (v.AssignAt n xs a)) ≤ g.name_weight n.0 + (entries_weight g xs + g.node_weight a)
-  pub of_show : (p : ℕ) (a : Node) → g.node_weight (node p (v.Show a)) ≤ g.node_weight a
-  pub of_call : (p : ℕ) (n : NameId) (a b : Option Node) → g.node_weight (node p (v.Call n a b)) ≤ g.name_weight n.0 + (optional_weight g a + optional_weight g b)
+  pub of_numbers : (i p : ℕ) (xs : List ℤ) → g.tree_weight (t.Numbers i p xs) ≤ numbers_weight g xs
+  pub of_text : (i p : ℕ) (cs : List ℕ) → g.tree_weight (t.Text i p cs) ≤ g.text_weight cs
+  pub of_name : (i p n : ℕ) → g.tree_weight (t.Name i p n) ≤ g.name_weight n
+  pub of_text_input : (i p : ℕ) → g.tree_weight (t.TextInput i p) ≤ 0
+  pub of_nums_input : (i p : ℕ) → g.tree_weight (t.NumsInput i p) ≤ 0
+  pub of_mono : (i p : ℕ) (f : Primitive) (a : Tree) → g.tree_weight (t.Mono i p f a) ≤ g.tree_weight a
+  pub of_dyad : (i p : ℕ) (f : Primitive) (a b : Tree) → g.tree_weight (t.Dyad i p f a b) ≤ g.tree_weight a + g.tree_weight b
+  pub of_index : (i p : ℕ) (a : Tree) (xs : Trees) → g.tree_weight (t.Index i p a xs) ≤ g.tree_weight a + trees_weight g xs
+  pub of_assign : (i p n : ℕ) (a : Tree) → g.tree_weight (t.Assign i p n a) ≤ g.name_weight n + g.tree_weight a
+  pub of_assign_at : (i p n : ℕ) (xs : Trees) (a : Tree) → g.tree_weight (t.AssignAt i p n xs a) ≤ g.name_weight n + (trees_weight g xs + g.tree_weight a)
+  pub of_show : (i p : ℕ) (a : Tree) → g.tree_weight (t.Show i p a) ≤ g.tree_weight a
+  pub of_call : (i p n : ℕ) (a b : Argument) → g.tree_weight (t.Call i p n a b) ≤ g.name_weight n + (argument_weight g a + argument_weight g b)
+
+abbrev pub node_weight : Scale → Node → ℕ
+node_weight g n = g.tree_weight (tree_of n)
+
+of_mono : (g : Scale) → IsEven g → (p : ℕ) (f : Primitive) (a : Node) → node_weight g (node p (v.Mono f a)) ≤ node_weight g a
+of_mono g e p f a = let h = ap g.tree_weight (mono_node p f a) in let i = e.of_mono p p f (tree_of a) in omega arith
+
+of_dyad : (g : Scale) → IsEven g → (p : ℕ) (f : Primitive) (a b : Node) → node_weight g (node p (v.Dyad f a b)) ≤ node_weight g a + node_weight g b
+of_dyad g e p f a b = let h = ap g.tree_weight (dyad_node p f a b) in let i = e.of_dyad p p f (tree_of a) (tree_of b) in omega arith
+
+of_call : (g : Scale) → IsEven g → (p n : ℕ) (a b : Option Node) → node_weight g (node p (v.Call (name_id n) a b)) ≤ g.name_weight n + (argument_weight g (argument_in a) + argument_weight g (argument_in b))
+of_call g e p n a b = let h = ap g.tree_weight (call_node p n a b) in let i = e.of_call p p n (argument_in a) (argument_in b) in omega arith
 
 weigh_F : (g : Scale) (text : List ℕ) (x : F) (p : ℕ) (k : List Word) → weight g text k ≤ weight g text (spell_F x p k)
 weigh_F g text (arith_fn f) p k = omega arith
@@ -86,52 +101,52 @@ weigh_N : (g : Scale) (text : List ℕ) (ns : N) (k : List Word) → numbers_wei
 weigh_N g text no_number k = omega arith
 weigh_N g text (number p x ns) k = let h = weigh_N g text ns k in omega arith
 
-weigh_M : (g : Scale) → IsEven g → (text : List ℕ) (m : M) (b : Node) (k : List Word) → g.node_weight (apply1 m b) + weight g text k ≤ g.node_weight b + weight g text (spell_M m k)
-weigh_M g e text (arith1 p f) b k = let h = e.of_mono p (pr.Scalar f) b in omega arith
-weigh_M g e text (not1 p) b k = let h = e.of_mono p (pr.Scalar sf.Not) b in omega arith
-weigh_M g e text (both1 p f) b k = let h = e.of_mono p f b in omega arith
-weigh_M g e text (turn1 p a x) b k = let h = e.of_mono p (pr.Reverse (axis_of a x)) b in let i = weigh_X g text x k in omega arith
+weigh_M : (g : Scale) → IsEven g → (text : List ℕ) (m : M) (b : Node) (k : List Word) → node_weight g (apply1 m b) + weight g text k ≤ node_weight g b + weight g text (spell_M m k)
+weigh_M g e text (arith1 p f) b k = let h = of_mono g e p (pr.Scalar f) b in omega arith
+weigh_M g e text (not1 p) b k = let h = of_mono g e p (pr.Scalar sf.Not) b in omega arith
+weigh_M g e text (both1 p f) b k = let h = of_mono g e p f b in omega arith
+weigh_M g e text (turn1 p a x) b k = let h = of_mono g e p (pr.Reverse (axis_of a x)) b in let i = weigh_X g text x k in omega arith
 weigh_M g e text (reduce p f ps s a x) b k =
-    let h = e.of_mono p (reduction s (scalar_of f) (axis_of a x)) b in let i = weigh_X g text x k in let j = weigh_F g text f p (word (w.Stroke s a) ps ∷ spell_X x k) in omega arith
-weigh_M g e text (call1 p n) b k = let h = e.of_call p (name_id n) None (Some b) in omega arith
+    let h = of_mono g e p (reduction s (scalar_of f) (axis_of a x)) b in let i = weigh_X g text x k in let j = weigh_F g text f p (word (w.Stroke s a) ps ∷ spell_X x k) in omega arith
+weigh_M g e text (call1 p n) b k = let h = of_call g e p n None (Some b) in omega arith
 
-weigh_D : (g : Scale) → IsEven g → (text : List ℕ) (d : D) (a b : Node) (k : List Word) → g.node_weight (apply2 d a b) + weight g text k ≤ (g.node_weight a + g.node_weight b) + weight g text (spell_D d k)
-weigh_D g e text (scalar2 p f) a b k = let h = e.of_dyad p (pr.Scalar (scalar_of f)) a b in let i = weigh_F g text f p k in omega arith
-weigh_D g e text (both2 p f) a b k = let h = e.of_dyad p f a b in omega arith
-weigh_D g e text (dyadic2 p f) a b k = let h = e.of_dyad p f a b in omega arith
-weigh_D g e text (turn2 p c x) a b k = let h = e.of_dyad p (pr.Reverse (axis_of c x)) a b in let i = weigh_X g text x k in omega arith
-weigh_D g e text (copies p s c x) a b k = let h = e.of_dyad p (copying s (axis_of c x)) a b in let i = weigh_X g text x k in omega arith
-weigh_D g e text (outer p pd pf f) a b k = let h = e.of_dyad p (pr.Outer (scalar_of f)) a b in let i = weigh_F g text f pf k in omega arith
+weigh_D : (g : Scale) → IsEven g → (text : List ℕ) (d : D) (a b : Node) (k : List Word) → node_weight g (apply2 d a b) + weight g text k ≤ (node_weight g a + node_weight g b) + weight g text (spell_D d k)
+weigh_D g e text (scalar2 p f) a b k = let h = of_dyad g e p (pr.Scalar (scalar_of f)) a b in let i = weigh_F g text f p k in omega arith
+weigh_D g e text (both2 p f) a b k = let h = of_dyad g e p f a b in omega arith
+weigh_D g e text (dyadic2 p f) a b k = let h = of_dyad g e p f a b in omega arith
+weigh_D g e text (turn2 p c x) a b k = let h = of_dyad g e p (pr.Reverse (axis_of c x)) a b in let i = weigh_X g text x k in omega arith
+weigh_D g e text (copies p s c x) a b k = let h = of_dyad g e p (copying s (axis_of c x)) a b in let i = weigh_X g text x k in omega arith
+weigh_D g e text (outer p pd pf f) a b k = let h = of_dyad g e p (pr.Outer (scalar_of f)) a b in let i = weigh_F g text f pf k in omega arith
 weigh_D g e text (inner p f pd ph j) a b k =
-    let h = e.of_dyad p (pr.Inner (scalar_of f) (scalar_of j)) a b in let i = weigh_F g text j ph k in let l = weigh_F g text f p (word w.Dot pd ∷ spell_F j ph k) in omega arith
-weigh_D g e text (call2 p n) a b k = let h = e.of_call p (name_id n) (Some a) (Some b) in omega arith
+    let h = of_dyad g e p (pr.Inner (scalar_of f) (scalar_of j)) a b in let i = weigh_F g text j ph k in let l = weigh_F g text f p (word w.Dot pd ∷ spell_F j ph k) in omega arith
+weigh_D g e text (call2 p n) a b k = let h = of_call g e p n (Some a) (Some b) in omega arith
 
-weigh_S : (g : Scale) → IsEven g → (text : List ℕ) (a : S) (k : List Word) → g.node_weight (tree_S text a) + weight g text k ≤ weight g text (spell_S a k)
-weigh_S g e text (numbers p x ns) k = let h = e.of_numbers p (x ∷ numbers_of ns) in let i = weigh_N g text ns k in omega arith
-weigh_S g e text (literal p to) k = let h = e.of_text p (text_between text p to) in omega arith
-weigh_S g e text (variable p n) k = let h = e.of_name p (name_id n) in omega arith
-weigh_S g e text (call0 p n) k = let h = e.of_call p (name_id n) None None in omega arith
-weigh_S g e text (text_input p) k = let h = e.of_text_input p in omega arith
-weigh_S g e text (nums_input p) k = let h = e.of_nums_input p in omega arith
+weigh_S : (g : Scale) → IsEven g → (text : List ℕ) (a : S) (k : List Word) → node_weight g (tree_S text a) + weight g text k ≤ weight g text (spell_S a k)
+weigh_S g e text (numbers p x ns) k = let h = ap g.tree_weight (numbers_node p (x ∷ numbers_of ns)) in let i = e.of_numbers p p (x ∷ numbers_of ns) in let j = weigh_N g text ns k in omega arith
+weigh_S g e text (literal p to) k = let h = ap g.tree_weight (text_node p (text_between text p to)) in let i = e.of_text p p (text_between text p to) in omega arith
+weigh_S g e text (variable p n) k = let h = ap g.tree_weight (name_node p n) in let i = e.of_name p p n in omega arith
+weigh_S g e text (call0 p n) k = let h = of_call g e p n None None in omega arith
+weigh_S g e text (text_input p) k = let h = ap g.tree_weight (text_input_node p) in let i = e.of_text_input p p in omega arith
+weigh_S g e text (nums_input p) k = let h = ap g.tree_weight (nums_input_node p) in let i = e.of_nums_input p p in omega arith
 
 mutual
-  weigh_E : (g : Scale) → IsEven g → (text : List ℕ) (x : E) (k : List Word) → g.node_weight (tree_E text x) + weight g text k ≤ weight g text (spell_E x k)
+  weigh_E : (g : Scale) → IsEven g → (text : List ℕ) (x : E) (k : List Word) → node_weight g (tree_E text x) + weight g text k ≤ weight g text (spell_E x k)
   weigh_E g e text (operand a) k = weigh_O g e text a k
   weigh_E g e text (before m x) k = let h = weigh_M g e text m (tree_E text x) (spell_E x k) in let i = weigh_E g e text x k in omega arith
   weigh_E g e text (between a d x) k =
       let h = weigh_D g e text d (tree_O text a) (tree_E text x) (spell_E x k) in let i = weigh_E g e text x k in let j = weigh_O g e text a (spell_D d (spell_E x k)) in omega arith
-  weigh_E g e text (assign r p n pa x) k = let h = e.of_assign p (name_id n) (tree_E text x) in let i = weigh_E g e text x k in omega arith
+  weigh_E g e text (assign r p n pa x) k = let h = ap g.tree_weight (assign_node p n (tree_E text x)) in let j = e.of_assign p p n (tree_of (tree_E text x)) in let i = weigh_E g e text x k in omega arith
   weigh_E g e text (assign_at r p n pl l pa x) k =
-      let h = e.of_assign_at p (name_id n) (trees_L text l) (tree_E text x) in let i = weigh_E g e text x k in let j = weigh_L g e text l (word w.Assign pa ∷ spell_E x k) in omega arith
-  weigh_E g e text (show p pa x) k = let h = e.of_show p (tree_E text x) in let i = weigh_E g e text x k in omega arith
+      let h = ap g.tree_weight (assign_at_node p n (trees_L text l) (tree_E text x)) in let m = e.of_assign_at p p n (trees_in (trees_L text l)) (tree_of (tree_E text x)) in let i = weigh_E g e text x k in let j = weigh_L g e text l (word w.Assign pa ∷ spell_E x k) in omega arith
+  weigh_E g e text (show p pa x) k = let h = ap g.tree_weight (show_node p (tree_E text x)) in let j = e.of_show p p (tree_of (tree_E text x)) in let i = weigh_E g e text x k in omega arith
 
-  weigh_O : (g : Scale) → IsEven g → (text : List ℕ) (a : O) (k : List Word) → g.node_weight (tree_O text a) + weight g text k ≤ weight g text (spell_O a k)
+  weigh_O : (g : Scale) → IsEven g → (text : List ℕ) (a : O) (k : List Word) → node_weight g (tree_O text a) + weight g text k ≤ weight g text (spell_O a k)
   weigh_O g e text (simple a) k = weigh_S g e text a k
   weigh_O g e text (paren p x q) k = let i = weigh_E g e text x (word w.Close q ∷ k) in omega arith
   weigh_O g e text (index a p l) k =
-      let h = e.of_index p (tree_O text a) (trees_L text l) in let i = weigh_O g e text a (word w.OpenBracket p ∷ spell_L l k) in let j = weigh_L g e text l k in omega arith
+      let h = ap g.tree_weight (index_node p (tree_O text a) (trees_L text l)) in let m = e.of_index p p (tree_of (tree_O text a)) (trees_in (trees_L text l)) in let i = weigh_O g e text a (word w.OpenBracket p ∷ spell_L l k) in let j = weigh_L g e text l k in omega arith
 
-  weigh_L : (g : Scale) → IsEven g → (text : List ℕ) (l : L) (k : List Word) → entries_weight g (trees_L text l) + weight g text k ≤ weight g text (spell_L l k)
+  weigh_L : (g : Scale) → IsEven g → (text : List ℕ) (l : L) (k : List Word) → trees_weight g (trees_in (trees_L text l)) + weight g text k ≤ weight g text (spell_L l k)
   weigh_L g e text (last_gap p) k = omega arith
   weigh_L g e text (last_entry x p) k = let h = weigh_E g e text x (word w.CloseBracket p ∷ k) in omega arith
   weigh_L g e text (gap p l) k = let h = weigh_L g e text l k in omega arith
@@ -141,11 +156,11 @@ mutual
 
 abbrev pub statement_weight : Scale → Statement → ℕ
 statement_weight g st.Empty = 0
-statement_weight g (st.Quiet n) = g.node_weight n
-statement_weight g (st.Display n) = g.node_weight n
-statement_weight g (st.Branch p n) = g.node_weight n
+statement_weight g (st.Quiet n) = node_weight g n
+statement_weight g (st.Display n) = node_weight g n
+statement_weight g (st.Branch p n) = node_weight g n
 
-valued_weight : (g : Scale) (x : E) (n : Node) → statement_weight g (valued x n) ≡ g.node_weight n
+valued_weight : (g : Scale) (x : E) (n : Node) → statement_weight g (valued x n) ≡ node_weight g n
 valued_weight g (operand a) n = refl
 valued_weight g (before m x) n = refl
 valued_weight g (between a d x) n = refl
@@ -156,9 +171,9 @@ valued_weight g (show p pa x) n = refl
 weigh_sentence : (g : Scale) → IsEven g → (text : List ℕ) (x : Sentence) → statement_weight g (statement_of text x) ≤ weight g text (spell x)
 weigh_sentence g e text (value x) = let h = weigh_E g e text x [] in let i = valued_weight g x (tree_E text x) in omega arith
 weigh_sentence g e text (branch p x) = let h = weigh_E g e text x [] in omega arith
-weigh_sentence g e text (perform0 p n) = let h = e.of_call p (name_id n) None None in omega arith
-weigh_sentence g e text (perform1 p n x) = let h = e.of_call p (name_id n) None (Some (tree_E text x)) in let i = weigh_E g e text x [] in omega arith
-weigh_sentence g e text (perform2 a p n x) = let h = e.of_call p (name_id n) (Some (tree_O text a)) (Some (tree_E text x)) in let i = weigh_E g e text x [] in
+weigh_sentence g e text (perform0 p n) = let h = of_call g e p n None None in omega arith
+weigh_sentence g e text (perform1 p n x) = let h = of_call g e p n None (Some (tree_E text x)) in let i = weigh_E g e text x [] in omega arith
+weigh_sentence g e text (perform2 a p n x) = let h = of_call g e p n (Some (tree_O text a)) (Some (tree_E text x)) in let i = weigh_E g e text x [] in
     let j = weigh_O g e text a (word (w.Name (role.Procedure arity.Dyadic) n) p ∷ spell_E x []) in omega arith
 
 weigh_statement : (g : Scale) → IsEven g → (text : List ℕ) (ws : List Word) (s : Statement) → IsStatement text ws s → statement_weight g s ≤ weight g text ws

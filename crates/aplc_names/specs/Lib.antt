@@ -1,6 +1,8 @@
 pub mod Tables
 pub mod Outlines
 pub mod Scopes
+pub mod Lookups
+pub mod Fits
 pub mod Firsts
 pub mod Clashes
 pub mod Graphs

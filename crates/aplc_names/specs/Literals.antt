@@ -1,39 +1,42 @@
 -- The literals of a program: their numbers, and how many elements they have.
-use Rattle.std.specs.Prelude.{◌≡◌, ℕ, ◌+◌, true, ℤ, List, [], ◌∷◌, ◌++◌, length, map, sum, All, Option, Some, None}
+use Rattle.std.specs.Prelude.{◌≡◌, ℕ, ◌+◌, true, ℤ, List, [], ◌++◌, length, map, sum, All}
 use Rattle.aplc_scalar.specs.Scalar.{in_range}
-use Rattle.aplc_syntax.specs.declared.tree.Form.TheOpen as o
-use Rattle.aplc_syntax.specs.declared.tree.Form.TheOpen.{Form-F}
-use Rattle.aplc_syntax.specs.declared.tree.Node.{Node, Node-F, fold-Node}
+use Rattle.aplc_syntax.specs.declared.tree.Node.{Node}
 use Rattle.aplc_syntax.specs.declared.tree.Line.{Line}
 use Rattle.aplc_syntax.specs.declared.tree.Function.{Function}
 use Rattle.aplc_syntax.specs.declared.tree.Program.{Program}
 use Rattle.aplc_syntax.specs.declared.tree.Statement.{Statement}
 use Rattle.aplc_syntax.specs.declared.tree.Statement.TheVariants as st
+use Rattle.aplc_syntax.specs.PlainTrees.{Tree, Trees, Argument, tree_of}
+use Rattle.aplc_syntax.specs.PlainTrees as t
 
 -- ---- Numbers
 
-abbrev pub joined : List (Option (List ℤ)) → List ℤ
-joined [] = []
-joined (None ∷ xs) = joined xs
-joined (Some zs ∷ xs) = zs ++ joined xs
+-- the numbers of the literals in a tree
+abbrev mutual
+  pub tree_numbers : Tree → List ℤ
+  tree_numbers (t.Numbers i p zs) = zs
+  tree_numbers (t.Mono i p f a) = tree_numbers a
+  tree_numbers (t.Dyad i p f a b) = tree_numbers a ++ tree_numbers b
+  tree_numbers (t.Index i p a xs) = tree_numbers a ++ trees_numbers xs
+  tree_numbers (t.Assign i p n a) = tree_numbers a
+  tree_numbers (t.AssignAt i p n xs a) = trees_numbers xs ++ tree_numbers a
+  tree_numbers (t.Show i p a) = tree_numbers a
+  tree_numbers (t.Call i p n a b) = argument_numbers a ++ argument_numbers b
+  tree_numbers _ = []
 
-abbrev pub form_numbers : Form-F (List ℤ) (List ℤ) → List ℤ
-form_numbers (o.Numbers zs) = zs
-form_numbers (o.Mono f a) = a
-form_numbers (o.Dyad f a b) = a ++ b
-form_numbers (o.Index a xs) = a ++ joined xs
-form_numbers (o.Assign n a) = a
-form_numbers (o.AssignAt n xs a) = joined xs ++ a
-form_numbers (o.Show a) = a
-form_numbers (o.Call n a b) = joined (a ∷ b ∷ [])
-form_numbers _ = []
+  pub trees_numbers : Trees → List ℤ
+  trees_numbers t.no_more = []
+  trees_numbers (t.left_out xs) = trees_numbers xs
+  trees_numbers (t.and_tree x xs) = tree_numbers x ++ trees_numbers xs
 
-abbrev pub numbers_step : Node-F (List ℤ) (List ℤ) → List ℤ
-numbers_step n = n.form
+  pub argument_numbers : Argument → List ℤ
+  argument_numbers t.absent = []
+  argument_numbers (t.given x) = tree_numbers x
 
 -- the numbers of the literals in a node
 abbrev pub numbers_in : Node → List ℤ
-numbers_in n = fold-Node (List ℤ) (List ℤ) form_numbers numbers_step n
+numbers_in n = tree_numbers (tree_of n)
 
 abbrev pub statement_numbers : Statement → List ℤ
 statement_numbers st.Empty = []
@@ -47,35 +50,34 @@ HasNumbersInRange p = All (λ (f : Function). All (λ (l : Line). All (λ z. in_
 
 -- ---- Elements
 
-abbrev pub added : List (Option ℕ) → ℕ
-added [] = 0
-added (None ∷ xs) = added xs
-added (Some n ∷ xs) = n + added xs
+-- how many elements the literals in a tree have
+abbrev mutual
+  pub tree_elements : Tree → ℕ
+  tree_elements (t.Numbers i p zs) = length zs
+  tree_elements (t.Text i p cs) = length cs
+  tree_elements (t.Mono i p f a) = tree_elements a
+  tree_elements (t.Dyad i p f a b) = tree_elements a + tree_elements b
+  tree_elements (t.Index i p a xs) = tree_elements a + trees_elements xs
+  tree_elements (t.Assign i p n a) = tree_elements a
+  tree_elements (t.AssignAt i p n xs a) = trees_elements xs + tree_elements a
+  tree_elements (t.Show i p a) = tree_elements a
+  tree_elements (t.Call i p n a b) = argument_elements a + argument_elements b
+  tree_elements _ = 0
 
-abbrev pub form_elements : Form-F ℕ ℕ → ℕ
-form_elements (o.Numbers zs) = length zs
-form_elements (o.Text cs) = length cs
-form_elements (o.Mono f a) = a
-form_elements (o.Dyad f a b) = a + b
-form_elements (o.Index a xs) = a + added xs
-form_elements (o.Assign n a) = a
-form_elements (o.AssignAt n xs a) = added xs + a
-form_elements (o.Show a) = a
-form_elements (o.Call n a b) = added (a ∷ b ∷ [])
-form_elements _ = 0
+  pub trees_elements : Trees → ℕ
+  trees_elements t.no_more = 0
+  trees_elements (t.left_out xs) = trees_elements xs
+  trees_elements (t.and_tree x xs) = tree_elements x + trees_elements xs
 
-abbrev pub elements_step : Node-F ℕ ℕ → ℕ
-elements_step n = n.form
-
--- how many elements the literals in a node have
-abbrev pub elements_in : Node → ℕ
-elements_in n = fold-Node ℕ ℕ form_elements elements_step n
+  pub argument_elements : Argument → ℕ
+  argument_elements t.absent = 0
+  argument_elements (t.given x) = tree_elements x
 
 abbrev pub statement_elements : Statement → ℕ
 statement_elements st.Empty = 0
-statement_elements (st.Quiet n) = elements_in n
-statement_elements (st.Display n) = elements_in n
-statement_elements (st.Branch p n) = elements_in n
+statement_elements (st.Quiet n) = tree_elements (tree_of n)
+statement_elements (st.Display n) = tree_elements (tree_of n)
+statement_elements (st.Branch p n) = tree_elements (tree_of n)
 
 abbrev pub line_elements : Line → ℕ
 line_elements l = statement_elements l.statement

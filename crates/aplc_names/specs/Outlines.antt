@@ -1,17 +1,17 @@
 -- What a function says of names.
 use Rattle.std.specs.Prelude.{ℕ, ◌+◌, ◌&&◌, Bool, true, false, List, [], ◌∷◌, ◌++◌, map, flat_map, Option, Some, None, is_none, option_map, ℤ, pos}
 use Rattle.std.specs.Option.{option_to_list}
-use Rattle.aplc_syntax.specs.declared.tree.Form.TheOpen as o
-use Rattle.aplc_syntax.specs.declared.tree.Form.TheOpen.{Form-F}
-use Rattle.aplc_syntax.specs.declared.tree.Form.{Form, fold-Form}
 use Rattle.aplc_syntax.specs.declared.tree.NameId.{NameId}
 use Rattle.aplc_syntax.specs.declared.tree.Named.{Named}
-use Rattle.aplc_syntax.specs.declared.tree.Node.{Node, Node-F, fold-Node}
+use Rattle.aplc_syntax.specs.declared.tree.Node.{Node}
 use Rattle.aplc_syntax.specs.declared.tree.Line.{Line}
 use Rattle.aplc_syntax.specs.declared.tree.Function.{Function}
 use Rattle.aplc_syntax.specs.declared.tree.Program.{Program}
 use Rattle.aplc_syntax.specs.declared.tree.Statement.{Statement}
 use Rattle.aplc_syntax.specs.declared.tree.Statement.TheVariants as st
+use Rattle.aplc_syntax.specs.Trees.{name_id}
+use Rattle.aplc_syntax.specs.PlainTrees.{Tree, Trees, Argument, tree_of}
+use Rattle.aplc_syntax.specs.PlainTrees as t
 use Rattle.aplc_names.specs.declared.outline.Mention.{Mention}
 use Rattle.aplc_names.specs.declared.outline.Outline.{Outline}
 
@@ -20,29 +20,31 @@ use Rattle.aplc_names.specs.declared.outline.Outline.{Outline}
 abbrev pub mention : NameId → ℕ → Bool → Mention
 mention n p assigned = record { name = n; place = p; assigned = assigned }
 
-abbrev pub present : List (Option (List Mention)) → List Mention
-present [] = []
-present (None ∷ xs) = present xs
-present (Some ms ∷ xs) = ms ++ present xs
+-- the names in a tree, in the order in which they stand there; `T←E` and `T[L]←E` both assign T
+abbrev mutual
+  pub tree_mentions : Tree → List Mention
+  tree_mentions (t.Name i p n) = mention (name_id n) p false ∷ []
+  tree_mentions (t.Mono i p f a) = tree_mentions a
+  tree_mentions (t.Dyad i p f a b) = tree_mentions a ++ tree_mentions b
+  tree_mentions (t.Index i p a xs) = tree_mentions a ++ trees_mentions xs
+  tree_mentions (t.Assign i p n a) = mention (name_id n) p true ∷ tree_mentions a
+  tree_mentions (t.AssignAt i p n xs a) = mention (name_id n) p true ∷ (trees_mentions xs ++ tree_mentions a)
+  tree_mentions (t.Show i p a) = tree_mentions a
+  tree_mentions (t.Call i p n a b) = mention (name_id n) p false ∷ (argument_mentions a ++ argument_mentions b)
+  tree_mentions _ = []
 
--- the names in a form whose node is at place p; `T←E` and `T[L]←E` both assign T
-abbrev pub form_mentions : Form-F (ℕ → List Mention) (List Mention) → ℕ → List Mention
-form_mentions (o.Name n) p = mention n p false ∷ []
-form_mentions (o.Mono f a) p = a
-form_mentions (o.Dyad f a b) p = a ++ b
-form_mentions (o.Index a xs) p = a ++ present xs
-form_mentions (o.Assign n a) p = mention n p true ∷ a
-form_mentions (o.AssignAt n xs a) p = mention n p true ∷ (present xs ++ a)
-form_mentions (o.Show a) p = a
-form_mentions (o.Call n a b) p = mention n p false ∷ present (a ∷ b ∷ [])
-form_mentions _ p = []
+  pub trees_mentions : Trees → List Mention
+  trees_mentions t.no_more = []
+  trees_mentions (t.left_out xs) = trees_mentions xs
+  trees_mentions (t.and_tree x xs) = tree_mentions x ++ trees_mentions xs
 
-abbrev pub node_step : Node-F (ℕ → List Mention) (List Mention) → List Mention
-node_step n = n.form n.place
+  pub argument_mentions : Argument → List Mention
+  argument_mentions t.absent = []
+  argument_mentions (t.given x) = tree_mentions x
 
 -- the names in a node and in all nodes in it
 abbrev pub node_mentions : Node → List Mention
-node_mentions n = fold-Node (ℕ → List Mention) (List Mention) form_mentions node_step n
+node_mentions n = tree_mentions (tree_of n)
 
 abbrev pub statement_mentions : Statement → List Mention
 statement_mentions st.Empty = []
@@ -60,18 +62,6 @@ line_mentions l = label_mention l.label ++ statement_mentions l.statement
 
 abbrev pub lines_mentions : List Line → List Mention
 lines_mentions ls = flat_map line_mentions ls
-
--- the names in a form whose node is at place p
-abbrev pub names_of_form : Form → ℕ → List Mention
-names_of_form x p = fold-Form (ℕ → List Mention) (List Mention) form_mentions node_step x p
-
-abbrev pub optional_mentions : Option Node → List Mention
-optional_mentions None = []
-optional_mentions (Some n) = node_mentions n
-
--- the names in the entries of a list
-abbrev pub nodes_mentions : List (Option Node) → List Mention
-nodes_mentions xs = present (map (option_map node_mentions) xs)
 
 -- ---- Functions
 
@@ -109,7 +99,6 @@ outline f = record {
   bare = is_bare f;
   locals = local_names_of f;
   labels = labels_in f.lines;
-  lines = lines_from 1 f.lines;
   mentions = lines_mentions f.lines;
 }
 

@@ -1,5 +1,5 @@
 -- Programs that the grammar gives, and those among them that nothing refuses.
-use Rattle.std.specs.Prelude.{◌≡◌, ◌<◌, ◌≤◌, ℕ, List, length, All, nat_eq}
+use Rattle.std.specs.Prelude.{◌≡◌, ◌<◌, ◌≤◌, ℕ, ℤ, List, length, All, nat_eq, true}
 use Rattle.std.specs.List.{IsDistinct}
 use Rattle.aplc_lex.specs.Tokens.{AreTokens}
 use Rattle.aplc_lex.specs.declared.token.Token.{Token}
@@ -16,6 +16,8 @@ use Rattle.aplc_names.specs.Outlines.{outline, outlines}
 use Rattle.aplc_names.specs.Scopes.{function_names}
 use Rattle.aplc_names.specs.Clashes.{Stands}
 use Rattle.aplc_names.specs.Literals.{HasNumbersInRange, elements}
+use Rattle.aplc_names.specs.Lookups.{all_label_lines}
+use Rattle.aplc_names.specs.Fits.{HasFittingStatements, HasNames, HasNumberedNodes, is_origin, HasSmallRanks}
 
 -- the program of a text of at most 262,144 bytes; each node has a number of its own
 pub record IsParsed (p : Program) : Type 0 where
@@ -50,6 +52,26 @@ IsOutlineBelow n f = IsBelow n f.name × All (IsBelow n) f.locals × All (λ (m 
 abbrev pub HasNamesBelow : Program → Type 0
 HasNamesBelow p = All (λ (x : Var). IsBelow (length p.names) x.name) p.vars × All (λ (f : Function). IsOutlineBelow (length p.names) (outline f)) p.functions
 
--- what a resolved program holds
-abbrev pub IsResolved : Program → List Named → List Outline → Type 0
-IsResolved p hs fs = ∥ IsParsed p ∥₁ × IsClean p × (length p.functions ≤ 999) × HasShortFunctions p × HasSmallStatements p × (hs ≡ function_names (outlines p)) × (fs ≡ outlines p) × HasNumbersInRange p × (length p.names ≤ 262144) × (elements p ≤ 262144) × HasNamesBelow p
+-- what every program of the grammar has
+pub record IsGrammatical (p : Program) : Type 0 where
+  pub few : length p.functions ≤ 999
+  pub short : HasShortFunctions p
+  pub small : HasSmallStatements p
+  pub fitting : HasFittingStatements p
+  pub numbers : HasNumbersInRange p
+  pub numbered : HasNumberedNodes p
+  pub names : length p.names ≤ 262144
+  pub named : HasNames p
+  pub below : HasNamesBelow p
+  pub elements : elements p ≤ 262144
+  pub origin : is_origin p.origin ≡ true
+  pub ranks : HasSmallRanks p
+
+-- what a resolved program holds: that it is one, and the tables of its names
+pub record IsResolved (p : Program) (hs : List Named) (fs : List Outline) (lines : List (List ℤ)) : Type 0 where
+  pub parsed : ∥ IsParsed p ∥₁
+  pub clean : IsClean p
+  pub grammatical : IsGrammatical p
+  pub heads : hs ≡ function_names (outlines p)
+  pub all : fs ≡ outlines p
+  pub labelled : lines ≡ all_label_lines p

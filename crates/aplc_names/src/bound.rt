@@ -1,25 +1,29 @@
 //! Programs whose names are resolved.
 //! It must not know what a program does.
 
-ghost use Rattle.std.specs.Prelude.{◌≡◌, ◌≤◌, ◌<◌, map, length, IfOk, IfErr};
+ghost use Rattle.std.specs.Prelude.{◌≡◌, ◌≤◌, ◌<◌, map, length, true, Some, IfOk, IfErr};
 ghost use Rattle.aplc_lex.specs.declared.token.Refusal.{Refusal};
 ghost use Rattle.aplc_syntax.specs.declared.tree.Program.{Program};
 ghost use Rattle.aplc_syntax.specs.Refusals.{SaysFirst};
 ghost use Rattle.aplc_names.specs.Tables.{first, stands_in};
 ghost use Rattle.aplc_names.specs.Outlines.{outlines};
-ghost use Rattle.aplc_names.specs.Scopes.{function_names, label_or, local_or_global, scope_in, IsScope};
+ghost use Rattle.aplc_names.specs.Scopes.{function_names, local_or_global, scope_of, start_of, IsScope};
+ghost use Rattle.aplc_names.specs.Lookups.{line_or, scope_found, all_label_lines};
+ghost use Rattle.aplc_names.specs.Fits.{HasFittingStatements, HasNames, HasNumberedNodes, is_origin, HasSmallRanks};
 ghost use Rattle.aplc_names.specs.Firsts.{IsFirstOf, earlier};
 ghost use Rattle.aplc_names.specs.Clashes.{Stands, var_name};
 ghost use Rattle.aplc_names.specs.Literals.{HasNumbersInRange, elements};
 ghost use Rattle.aplc_names.specs.Programs.{IsParsed, IsClean, HasShortFunctions, HasSmallStatements, HasNamesBelow};
 
 use crate::clashes::{again, in_functions, mainless, taken};
+use crate::entry::start_number;
+use crate::labels::label_lines_of;
 use crate::minimum::earlier;
 use crate::outline::{Outline, outlines_of};
 use crate::scope::Scope;
 use crate::shadows::shadows;
 use crate::table::Table;
-use aplc_lex::{Refusal, Stop};
+use aplc_lex::{List, Refusal, Stop};
 use aplc_syntax::{NameId, Named, Program, Var};
 use std::alloc::{AllocError, Global};
 use std::marker::Model;
@@ -30,6 +34,7 @@ pub struct Bound {
     program: Program,
     heads: Table,
     outlines: Vec<Outline>,
+    lines: Vec<List<i64>>,
 }
 
 impl Model for Bound {
@@ -43,12 +48,12 @@ impl Model for Bound {
 
     ghost view = { λ b. b.program };
 
-    ghost invariant = { λ b. IsResolved b.program b.heads b.outlines.items };
+    ghost invariant = { λ b. IsResolved b.program b.heads b.outlines.items b.lines.items };
 }
 
-/// A label, or else this.
-fn label_or(place: Option<usize>, lines: &[i64], other: Scope) -> Scope
-    ensures { result ≡ label_or place lines.now other }
+/// The line of a label, or else this.
+fn line_or(place: Option<usize>, lines: &[i64], other: Scope) -> Scope
+    ensures { result ≡ line_or place lines.now other }
 {
     match place {
         None => other,
@@ -59,30 +64,32 @@ fn label_or(place: Option<usize>, lines: &[i64], other: Scope) -> Scope
     }
 }
 
-fn local_scope(outline: &Outline, name: NameId) -> Scope
-    ensures { result ≡ label_or (first name.0 outline.now.labels) outline.now.lines (local_or_global (stands_in name.0 outline.now.locals)) }
+fn local_scope(outline: &Outline, lines: &[i64], name: NameId) -> Scope
+    ensures { result ≡ line_or (first name.0 outline.now.labels) lines.now (local_or_global (stands_in name.0 outline.now.locals)) }
 {
     let other = if outline.locals.has(name) {
         Scope::Local
     } else {
         Scope::Global
     };
-    label_or(outline.labels.first(name), outline.lines.as_slice(), other)
+    line_or(outline.labels.first(name), lines, other)
 }
 
 /// What a name is in a function.
-fn scope_in(heads: &Table, outline: &Outline, name: NameId) -> Scope
+fn scope_found(heads: &Table, outline: &Outline, lines: &[i64], name: NameId) -> Scope
     requires { length heads.now ≤ 999 }
-    ensures { result ≡ scope_in heads.now outline.now name.0 }
+    ensures { result ≡ scope_found heads.now outline.now lines.now name.0 }
 {
     match heads.first(name) {
         Some(i) => Scope::Function(i as u32),
-        None => local_scope(outline, name),
+        None => local_scope(outline, lines, name),
     }
 }
 
 impl Bound {
-    /// The program. It is one of a text of at most 262,144 bytes, and nothing refuses it.
+    /// The program. It is one of a text of at most 262,144 bytes, and nothing refuses it. Each statement fits the
+    /// functions of the program: functions stand with the arguments that they take, a call of a function without a
+    /// result at the root alone; numbers and characters lie in their ranges.
     pub fn program(&self) -> &Program
         ensures program { result.now ≡ self.now }
         ensures parsed { ∥ IsParsed self.now ∥₁ }
@@ -90,22 +97,43 @@ impl Bound {
         ensures few { length self.now.functions ≤ 999 }
         ensures short { HasShortFunctions self.now }
         ensures small { HasSmallStatements self.now }
+        ensures fitting { HasFittingStatements self.now }
         ensures numbers { HasNumbersInRange self.now }
+        ensures numbered { HasNumberedNodes self.now }
         ensures names { length self.now.names ≤ 262144 }
-        ensures elements { elements self.now ≤ 262144 }
+        ensures named { HasNames self.now }
         ensures below { HasNamesBelow self.now }
+        ensures elements { elements self.now ≤ 262144 }
+        ensures origin { is_origin self.now.origin ≡ true }
+        ensures ranks { HasSmallRanks self.now }
     {
         &self.program
     }
 
-    /// What a name is in the function of this number, counted from 0.
+    /// What a name is in the function of this number, counted from 0. A function is below the number of functions and
+    /// has the name; a label's line has it as its label.
     pub fn scope(&self, function: usize, name: NameId) -> Scope
         requires function { function < length self.now.functions }
         requires name { name.0 < length self.now.names }
-        ensures { IsScope self.now function name.0 result }
+        ensures scope { result ≡ scope_of self.now function name.0 }
+        ensures stands { IsScope self.now function name.0 result }
     {
         let known = self.outlines.as_slice();
-        scope_in(&self.heads, &known[function], name)
+        let labelled = self.lines.as_slice();
+        scope_found(
+            &self.heads,
+            &known[function],
+            labelled[function].as_slice(),
+            name,
+        )
+    }
+
+    /// The number of the function where the program starts: the first MAIN without arguments and result.
+    pub fn start(&self) -> usize
+        ensures start { start_of self.now ≡ Some result }
+        ensures within { result < length self.now.functions }
+    {
+        start_number(&self.program)
     }
 }
 
@@ -165,6 +193,7 @@ fn first_refusal(
 struct Findings {
     heads: Table,
     outlines: Vec<Outline>,
+    lines: Vec<List<i64>>,
     first: Option<Refusal>,
 }
 
@@ -172,6 +201,7 @@ fn examine(alloc: Global, program: &Program) -> Result<Findings, AllocError>
     requires { IsParsed program.now }
     ensures heads { IfOk result (λ found. found.heads ≡ function_names (outlines program.now)) }
     ensures all { IfOk result (λ found. found.outlines.items ≡ outlines program.now) }
+    ensures lines { IfOk result (λ found. found.lines.items ≡ all_label_lines program.now) }
     ensures first { IfOk result (λ found. IsFirstOf (Stands program.now) found.first) }
 {
     let functions = program.functions.as_slice();
@@ -179,10 +209,12 @@ fn examine(alloc: Global, program: &Program) -> Result<Findings, AllocError>
     let known = outlines.as_slice();
     let names = own_names(alloc, known)?;
     let heads = Table::new(alloc, names)?;
+    let lines = label_lines_of(alloc, functions)?;
     let first = first_refusal(alloc, program, &heads, known)?;
     Ok(Findings {
         heads,
         outlines,
+        lines,
         first,
     })
 }
@@ -191,6 +223,7 @@ fn bind(program: Program, found: Findings) -> Result<Bound, Stop>
     requires parsed { IsParsed program }
     requires heads { found.heads ≡ function_names (outlines program) }
     requires all { found.outlines.items ≡ outlines program }
+    requires lines { found.lines.items ≡ all_label_lines program }
     requires first { IsFirstOf (Stands program) found.first }
     ensures bound { IfOk result (λ b. b ≡ program) }
     ensures clean { IfOk result (λ b. IsClean program) }
@@ -199,6 +232,7 @@ fn bind(program: Program, found: Findings) -> Result<Bound, Stop>
     let Findings {
         heads,
         outlines,
+        lines,
         first,
     } = found;
     match first {
@@ -207,6 +241,7 @@ fn bind(program: Program, found: Findings) -> Result<Bound, Stop>
             program,
             heads,
             outlines,
+            lines,
         }),
     }
 }

@@ -1,10 +1,11 @@
 //! The function where a program starts.
 //! It must not know what its lines do.
 
-ghost use Rattle.std.specs.Prelude.{◌≡◌, codes, is_some, true, Some};
+ghost use Rattle.std.specs.Prelude.{◌≡◌, ◌<◌, codes, is_some, true, Some, length};
 ghost use Rattle.aplc_syntax.specs.Layout.{is_called};
 ghost use Rattle.aplc_names.specs.Outlines.{outline};
 ghost use Rattle.aplc_names.specs.Clashes.{is_start};
+ghost use Rattle.aplc_names.specs.Scopes.{start_of};
 ghost use Rattle.aplc_names.specs.Sums.{main_function};
 
 use crate::outline::is_bare;
@@ -36,6 +37,21 @@ pub fn main_function(program: &Program) -> &Function
     for function in program.functions.as_slice() {
         if is_start(names, function) {
             return function;
+        }
+    }
+    unreachable!()
+}
+
+/// The number of that function, counted from 0.
+pub fn start_number(program: &Program) -> usize
+    requires { is_some (start_of program.now) ≡ true }
+    ensures start { start_of program.now ≡ Some result }
+    ensures within { result < length program.now.functions }
+{
+    let names = program.names.as_slice();
+    for (i, function) in program.functions.as_slice().iter().enumerate() {
+        if is_start(names, function) {
+            return i;
         }
     }
     unreachable!()

@@ -1,10 +1,11 @@
 //! What a function says of names: its own, its local ones, and each name in its lines.
 //! It must not know which names are refused.
 
-ghost use Rattle.std.specs.Prelude.{◌≡◌, ◌≤◌, ◌+◌, ◌++◌, ◌∷◌, [], map, flat_map, OnOk, IfOk, All, length};
+ghost use Rattle.std.specs.Prelude.{◌≡◌, ◌++◌, ◌∷◌, [], map, flat_map, OnOk, IfOk};
 ghost use Rattle.std.specs.Option.{option_to_list};
 ghost use Rattle.aplc_syntax.specs.declared.tree.Function.{Function};
-ghost use Rattle.aplc_names.specs.Outlines.{node_mentions, names_of_form, optional_mentions, nodes_mentions, statement_mentions, label_mention, line_mentions, lines_mentions, header_names, local_names_of, labels_in, lines_from, is_bare, outline, mention};
+ghost use Rattle.aplc_syntax.specs.PlainTrees.{tree_of, trees_in, argument_in};
+ghost use Rattle.aplc_names.specs.Outlines.{tree_mentions, argument_mentions, trees_mentions, statement_mentions, label_mention, line_mentions, lines_mentions, header_names, local_names_of, labels_in, is_bare, outline, mention};
 
 use crate::table::Table;
 use aplc_lex::List;
@@ -29,8 +30,6 @@ pub struct Outline {
     /// The names of the header but the function's own, and the labels.
     pub locals: Table,
     pub labels: Table,
-    /// The number of the line of each label, counted from 1.
-    pub lines: List<i64>,
     pub mentions: List<Mention>,
 }
 
@@ -47,23 +46,14 @@ fn put(out: &mut Vec<Mention>, name: NameId, place: u64, assigned: bool) -> Resu
 
 /// The names in a node and in all nodes in it.
 #[cycle(nodes)]
-#[tactic(auto, using(crate::proofs::Equations::node_equation))]
+#[tactic(auto, using(aplc_syntax::proofs::PlainForms::tree_node, aplc_syntax::proofs::PlainForms::plain_forms))]
 fn put_node(out: &mut Vec<Mention>, node: &Node) -> Result<(), AllocError>
-    ensures { OnOk result (out.new.items ≡ out.old.items ++ node_mentions node.now) }
+    ensures { OnOk result (out.new.items ≡ out.old.items ++ tree_mentions (tree_of node.now)) }
 {
-    put_form(out, &node.form, node.place)
-}
-
-/// The names in a form whose node is at this place.
-#[cycle(nodes)]
-#[tactic(auto, using(crate::proofs::Equations::form_equations))]
-fn put_form(out: &mut Vec<Mention>, form: &Form, place: u64) -> Result<(), AllocError>
-    ensures { OnOk result (out.new.items ≡ out.old.items ++ names_of_form form.now place) }
-{
-    match form {
+    match &node.form {
         Form::Numbers(_) | Form::Text(_) | Form::TextInput | Form::NumsInput => Ok(()),
-        Form::Name(name) => put(out, *name, place, false),
-        Form::Mono(_, a) => put_node(out, a.get()),
+        Form::Name(name) => put(out, *name, node.place, false),
+        Form::Mono(_, a) | Form::Show(a) => put_node(out, a.get()),
         Form::Dyad(_, a, b) => {
             put_node(out, a.get())?;
             put_node(out, b.get())
@@ -73,17 +63,16 @@ fn put_form(out: &mut Vec<Mention>, form: &Form, place: u64) -> Result<(), Alloc
             put_nodes(out, entries.as_slice())
         }
         Form::Assign(name, a) => {
-            put(out, *name, place, true)?;
+            put(out, *name, node.place, true)?;
             put_node(out, a.get())
         }
         Form::AssignAt(name, entries, a) => {
-            put(out, *name, place, true)?;
+            put(out, *name, node.place, true)?;
             put_nodes(out, entries.as_slice())?;
             put_node(out, a.get())
         }
-        Form::Show(a) => put_node(out, a.get()),
         Form::Call(name, a, b) => {
-            put(out, *name, place, false)?;
+            put(out, *name, node.place, false)?;
             put_optional(out, a)?;
             put_optional(out, b)
         }
@@ -93,7 +82,7 @@ fn put_form(out: &mut Vec<Mention>, form: &Form, place: u64) -> Result<(), Alloc
 /// The names in an argument, if there is one.
 #[cycle(nodes)]
 fn put_optional(out: &mut Vec<Mention>, node: &Option<Boxed<Node>>) -> Result<(), AllocError>
-    ensures { OnOk result (out.new.items ≡ out.old.items ++ optional_mentions node.now) }
+    ensures { OnOk result (out.new.items ≡ out.old.items ++ argument_mentions (argument_in node.now)) }
 {
     match node {
         None => Ok(()),
@@ -104,7 +93,7 @@ fn put_optional(out: &mut Vec<Mention>, node: &Option<Boxed<Node>>) -> Result<()
 /// The names in the entries of a list.
 #[cycle(nodes)]
 fn put_nodes(out: &mut Vec<Mention>, entries: &[Option<Node>]) -> Result<(), AllocError>
-    ensures { OnOk result (out.new.items ≡ out.old.items ++ nodes_mentions entries.now) }
+    ensures { OnOk result (out.new.items ≡ out.old.items ++ trees_mentions (trees_in entries.now)) }
 {
     for entry in entries {
         match entry {
@@ -177,22 +166,6 @@ fn local_names(alloc: Global, function: &Function) -> Result<Vec<Named>, AllocEr
     Ok(out)
 }
 
-/// The numbers of the lines that have labels.
-fn label_lines(alloc: Global, lines: &[Line]) -> Result<Vec<i64>, AllocError>
-    requires { length lines.now ≤ 999 }
-    ensures { IfOk result (λ v. v.items ≡ lines_from 1 lines.now) }
-{
-    let mut out = Vec::new(alloc);
-    let mut number = 1;
-    for line in lines {
-        if line.label.is_some() {
-            out.push(number)?;
-        }
-        number += 1;
-    }
-    Ok(out)
-}
-
 /// A function has neither arguments nor a result.
 pub fn is_bare(function: &Function) -> bool
     ensures { result ≡ is_bare function.now }
@@ -201,8 +174,7 @@ pub fn is_bare(function: &Function) -> bool
 }
 
 /// What a function says of names.
-pub fn outline_of(alloc: Global, function: &Function) -> Result<Outline, AllocError>
-    requires { length function.now.lines ≤ 999 }
+fn outline_of(alloc: Global, function: &Function) -> Result<Outline, AllocError>
     ensures { IfOk result (λ o. o ≡ outline function.now) }
 {
     let lines = function.lines.as_slice();
@@ -213,14 +185,12 @@ pub fn outline_of(alloc: Global, function: &Function) -> Result<Outline, AllocEr
         bare: is_bare(function),
         locals: Table::new(alloc, local_names(alloc, function)?)?,
         labels: Table::new(alloc, labels)?,
-        lines: List::from_vec(label_lines(alloc, lines)?),
         mentions: List::from_vec(mentions(alloc, lines)?),
     })
 }
 
 /// What functions say of names.
 pub fn outlines_of(alloc: Global, functions: &[Function]) -> Result<Vec<Outline>, AllocError>
-    requires { All (λ (f : Function). length f.lines ≤ 999) functions.now }
     ensures { IfOk result (λ v. v.items ≡ map outline functions.now) }
 {
     let mut out = Vec::new(alloc);

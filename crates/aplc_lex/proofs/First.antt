@@ -22,21 +22,21 @@ Met text r = Meets (drop (mark text) text) (mark text) r
 abbrev Cut : List ℕ → List Token → Type 0
 Cut text ts = IsCut (drop (mark text) text) (mark text) ts
 
-not_both : (text : List ℕ) (n : ℕ) → IsUtf8 text → IsValidUpTo text n → ⊥
+pub not_both : (text : List ℕ) (n : ℕ) → IsUtf8 text → IsValidUpTo text n → ⊥
 not_both text n u v = let a = utf8_valid_len-IsUtf8 text u in let b = utf8_valid_len-IsValidUpTo text n v in let c = v.short in omega arith
 
 one_place : (text : List ℕ) (n m : ℕ) → IsValidUpTo text n → IsValidUpTo text m → n ≡ m
 one_place text n m v w = sym (utf8_valid_len-IsValidUpTo text n v) ∙ utf8_valid_len-IsValidUpTo text m w
 
 -- the refusal of a head, where the text is UTF-8
-head_first : (text : List ℕ) (r : Refusal) → IsUtf8 text → Met text r → IsFirst text r
+pub head_first : (text : List ℕ) (r : Refusal) → IsUtf8 text → Met text r → IsFirst text r
 head_first text r u e = record {
   stands = inr (e, λ g v. absurd (not_both text g u v));
   first = λ t h. elim h as (λ x. IsBefore r t) [ inl c ↦ absurd (not_both text t.place u c.1) | inr c ↦ (let same : r ≡ t = met_once e c.0 in inr (ap (λ (x : Refusal). x.place) same, omega (arith, ap (λ (x : Refusal). x.number) same))) ];
 }
 
 -- where it is not, and no head is refused
-utf8_first : (text : List ℕ) (g : ℕ) (ts : List Token) → IsValidUpTo text g → Cut text ts → IsFirst text (refusal 1 g)
+pub utf8_first : (text : List ℕ) (g : ℕ) (ts : List Token) → IsValidUpTo text g → Cut text ts → IsFirst text (refusal 1 g)
 utf8_first text g ts v e = record {
   stands = inl (refl, v);
   first = λ t h. elim h as (λ x. IsBefore (refusal 1 g) t) [ inl c ↦ inr (one_place text g t.place v c.1, omega (arith, c.0)) | inr c ↦ absurd (cut_or_met e c.0) ];
@@ -69,7 +69,7 @@ pick_first text g r two v m false e h x = record {
 }
 
 -- where both refuse
-both_first : (text : List ℕ) (g : ℕ) (r : Refusal) → 2 ≤ r.number → IsValidUpTo text g → Met text r → IsFirst text (earlier text r g)
+pub both_first : (text : List ℕ) (g : ℕ) (r : Refusal) → 2 ≤ r.number → IsValidUpTo text g → Met text r → IsFirst text (earlier text r g)
 both_first text g r two v m = pick_first text g r two v m (nat_lt r.place g) (is_excused text r g) refl refl
 
 -- what follows from the answers of the parts

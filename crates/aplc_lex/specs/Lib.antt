@@ -1,3 +1,4 @@
+pub mod Firsts
 pub mod Signs
 pub mod Heads
 pub mod Tokens

@@ -6,17 +6,15 @@ use Rattle.aplc_lex.specs.declared.token.Head.TheVariants as h
 use Rattle.aplc_lex.specs.declared.token.Token.{Token}
 use Rattle.aplc_lex.specs.declared.token.Refusal.{Refusal}
 use Rattle.aplc_lex.specs.declared.token.Stop.{Stop}
-use Rattle.aplc_lex.specs.declared.token.Stop.TheVariants as s
+pub use Rattle.aplc_lex.specs.Firsts.{refusal, IsBefore}
+use Rattle.aplc_lex.specs.Firsts.{SaysFirst}
+use Rattle.aplc_lex.specs.Firsts as firsts
 use Rattle.std.specs.List.{list_any}
 use Rattle.aplc_lex.specs.Heads.{head, open_quote}
 
 -- a token of n bytes at place p
 abbrev pub token : TokenKind → ℕ → ℕ → Token
 token k p n = record { kind = k; span = record { from = p; to = p + n } }
-
--- refusal n at place p
-abbrev pub refusal : ℕ → ℕ → Refusal
-refusal n p = record { number = n; place = p }
 
 -- bs, which stands at place p, is cut into these tokens: head by head, up to its end
 pub data IsCut : List ℕ → ℕ → List Token → Type 0 where
@@ -56,19 +54,13 @@ IsCause text r =
     ((r.number ≡ 1) × IsValidUpTo text r.place)
     ⊎ (Meets (drop (mark text) text) (mark text) r × ((g : ℕ) → IsValidUpTo text g → is_excused text r g ≡ false))
 
--- a smaller place, or at one place a number that isn't greater
-abbrev pub IsBefore : Refusal → Refusal → Type 0
-IsBefore r t = (r.place < t.place) ⊎ ((r.place ≡ t.place) × (r.number ≤ t.number))
-
 -- the refusal of a text: the first of its causes
-pub record IsFirst (text : List ℕ) (r : Refusal) : Type 0 where
-  pub stands : IsCause text r
-  pub first : (t : Refusal) → IsCause text t → IsBefore r t
+abbrev pub IsFirst : List ℕ → Refusal → Type 0
+IsFirst text r = firsts.IsFirst (IsCause text) r
 
 -- what an error says of a text: its first refusal, or nothing but that memory was wanting
 abbrev pub Refuses : List ℕ → Stop → Type 0
-Refuses text (s.Refused r) = IsFirst text r
-Refuses text s.Memory = Unit {0}
+Refuses text e = SaysFirst (IsCause text) e
 
 -- tokens have bytes, and stand one behind the other from place p on, up to q at most
 abbrev pub Rise : ℕ → List Token → ℕ → Type 0

@@ -34,20 +34,21 @@ pub struct Token {
     pub span: Span,
 }
 
-/// A refusal: its number, from 1 to 5, and its place in bytes from the file's first.
+/// A refusal of a source, from whichever stage: its number, which says what is refused, and its place in bytes from the
+/// file's first. From `tokens` the number is 1 to 5.
 #[derive(Clone, Copy, Debug, PartialEq, Eq)]
 pub struct Refusal {
     pub number: u8,
     pub place: u64,
 }
 
-/// Why a text gave no tokens.
+/// Why a stage gave no answer.
 #[derive(Debug, Drop, Error)]
 pub enum Stop {
-    /// The text has no tokens; this is its first refusal.
-    #[error("the text is refused")]
+    /// The source is refused by this stage; this is the first refusal.
+    #[error("the source is refused")]
     Refused(Refusal),
-    /// Memory was wanting. Nothing is said of the text.
+    /// Memory was wanting. Nothing is said of the source.
     #[error("out of memory")]
     Memory,
 }

@@ -2,5 +2,5 @@ pub mod Values
 pub mod Steps
 pub mod First
 pub mod Order
-mod Exclusive
-mod Always
+pub mod Exclusive
+pub mod Always

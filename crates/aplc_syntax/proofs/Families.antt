@@ -22,16 +22,18 @@ use Rattle.aplc_syntax.specs.Layout.{Row, Block, Header, lines, parts, parts_of,
 use Rattle.aplc_syntax.specs.Programs.{IsFunction, IsProgramOf}
 use Rattle.aplc_syntax.specs.Refusals.{Stands, misheaded, misclosed, unclosed, in_statement, line_1000, function_1000, undeclared, second_origin, not_bare, BeginsAt, bad_declaration, high_count}
 use Rattle.aplc_syntax.specs.Held.{row_of, block_of, Sorted, sorted, sorted_of}
-use Rattle.aplc_syntax.specs.Causes.{earliest, IsBest, InSome, at_first, OfBlock, of_header, of_more, of_end, of_line, of_count, OfRows, OfBare, DeclareFrom}
+use Rattle.aplc_lex.specs.Firsts.{earlier, IsFirstOf}
+use Rattle.aplc_syntax.specs.Causes.{InSome, at_first, OfBlock, of_header, of_more, of_end, of_line, of_count, OfRows, OfBare, DeclareFrom}
 use Rattle.aplc_syntax.specs.Noted.{headers_of, BlockStands, BlockIs, block_cause, function_cause, BlocksLaid}
-use Rattle.aplc_syntax.proofs.Firsts.{best_or, best_iff, best_of, some_mapped, mapped_some, zip_mapped, contains_some, some_contains, none_first, none_second}
+use Rattle.aplc_lex.proofs.Order.{either_first, same_first, none_first, none_second}
+use Rattle.aplc_syntax.proofs.Firsts.{best_of, some_mapped, mapped_some, zip_mapped, contains_some, some_contains}
 use Rattle.aplc_syntax.proofs.Placed.{laid_bodies}
 use Rattle.aplc_syntax.proofs.Saids.{begins, undeclared_in, pair_in, found_first, declare}
 
 -- ---- A 1,000th function
 
 -- the refusal of a 1,000th function of the text
-abbrev count_at : Option Block → Option Refusal
+abbrev pub count_at : Option Block → Option Refusal
 count_at None = None
 count_at (Some b) = Some (refusal high_count b.head.start)
 
@@ -54,7 +56,7 @@ count_to text ts (Some b) r e f = subst (λ (x : Refusal). Stands text ts x) (so
 
 -- ---- The families
 
-abbrev ByFamily : List ℕ → List Token → Refusal → Type 0
+abbrev pub ByFamily : List ℕ → List Token → Refusal → Type 0
 ByFamily text ts r =
     (OfRows (names_in text ts) None (above (parts_of text ts)) r ⊎ InSome OfBare (below (parts_of text ts)) r)
     ⊎ (InSome (OfBlock (headers (parts_of text ts))) (blocks (parts_of text ts)) r ⊎ (count_at (slice_get (blocks (parts_of text ts)) 999) ≡ Some r))
@@ -75,7 +77,7 @@ rows_to text ts r h = elim (found_first (names_in text ts) (above (parts_of text
 bare_to : (text : List ℕ) (ts : List Token) (r : Refusal) → InSome OfBare (below (parts_of text ts)) r → Stands text ts r
 bare_to text ts r h = let g = some_contains OfBare (below (parts_of text ts)) r h in let b = begins bad_declaration g.0 r g.2 in subst (λ (x : Refusal). Stands text ts x) (sym b.2) (not_bare g.1 b.1)
 
-to_text : (text : List ℕ) (ts : List Token) (r : Refusal) → ByFamily text ts r → Stands text ts r
+pub to_text : (text : List ℕ) (ts : List Token) (r : Refusal) → ByFamily text ts r → Stands text ts r
 to_text text ts r h = elim h as (λ z. Stands text ts r) [
   | inl a ↦ elim a as (λ z. Stands text ts r) [ inl b ↦ rows_to text ts r b | inr b ↦ bare_to text ts r b ]
   | inr a ↦ elim a as (λ z. Stands text ts r) [
@@ -90,7 +92,7 @@ in_block text ts b r c h = inr (inl (contains_some (OfBlock (headers (parts_of t
 bare_at : (p : ℕ) (x : Row) → BeginsAt x p → OfBare x (refusal bad_declaration p)
 bare_at p x (y, ws, e, f) = ap (at_first bad_declaration) e ∙ ap (λ (q : ℕ). let z : Option Refusal = Some (refusal bad_declaration q) in z) (sym f)
 
-from_text : (text : List ℕ) (ts : List Token) (r : Refusal) → Stands text ts r → ByFamily text ts r
+pub from_text : (text : List ℕ) (ts : List Token) (r : Refusal) → Stands text ts r → ByFamily text ts r
 from_text text ts _ (misheaded {b = b} c e g) = in_block text ts b _ c (of_header e g)
 from_text text ts _ (misclosed {b = b} c e g) = in_block text ts b _ c (of_more e g)
 from_text text ts _ (unclosed {b = b} c e g) = in_block text ts b _ c (of_end e g)
@@ -105,25 +107,25 @@ from_text text ts _ (not_bare {r = x} {p = p} c g) = inl (inr (contains_some OfB
 
 pub text_best : (text : List ℕ) (ts : List Token) (bs : List HeldBlock) (hs : List HeldHeader) (d e f : Option Refusal)
     → map block_of bs ≡ blocks (parts_of text ts) → headers_of hs ≡ filter_map header_of (map block_of bs)
-    → IsBest (OfRows (names_in text ts) None (above (parts_of text ts))) d → IsBest (InSome OfBare (below (parts_of text ts))) e → IsBest (InSome (BlockStands (headers_of hs)) bs) f
-    → IsBest (Stands text ts) (earliest (earliest d e) (earliest f (function_cause bs)))
+    → IsFirstOf (OfRows (names_in text ts) None (above (parts_of text ts))) d → IsFirstOf (InSome OfBare (below (parts_of text ts))) e → IsFirstOf (InSome (BlockStands (headers_of hs)) bs) f
+    → IsFirstOf (Stands text ts) (earlier (earlier d e) (earlier f (function_cause bs)))
 text_best text ts bs hs d e f b h i j k =
     let known : headers_of hs ≡ headers (parts_of text ts) = h ∙ ap (filter_map header_of) b in
-    let all : IsBest (InSome (OfBlock (headers (parts_of text ts))) (blocks (parts_of text ts))) f =
-    subst (λ (ks : List Block). IsBest (InSome (OfBlock (headers (parts_of text ts))) ks) f) b
-    (subst (λ (ks : List Header). IsBest (InSome (OfBlock ks) (map block_of bs)) f) known
-    (best_iff (InSome (BlockStands (headers_of hs)) bs) (InSome (OfBlock (headers_of hs)) (map block_of bs)) f (some_mapped block_of (OfBlock (headers_of hs)) bs) (mapped_some block_of (OfBlock (headers_of hs)) bs) k)) in
-    let count : IsBest (λ r. count_at (slice_get (blocks (parts_of text ts)) 999) ≡ Some r) (function_cause bs) =
-    subst (λ (o : Option Refusal). IsBest (λ r. count_at (slice_get (blocks (parts_of text ts)) 999) ≡ Some r) o) (sym (count_all bs ∙ ap (λ (ks : List Block). count_at (slice_get ks 999)) b)) (best_of (count_at (slice_get (blocks (parts_of text ts)) 999))) in
-    best_iff (ByFamily text ts) (Stands text ts) _ (to_text text ts) (from_text text ts)
-    (best_or (λ r. OfRows (names_in text ts) None (above (parts_of text ts)) r ⊎ InSome OfBare (below (parts_of text ts)) r)
+    let all : IsFirstOf (InSome (OfBlock (headers (parts_of text ts))) (blocks (parts_of text ts))) f =
+    subst (λ (ks : List Block). IsFirstOf (InSome (OfBlock (headers (parts_of text ts))) ks) f) b
+    (subst (λ (ks : List Header). IsFirstOf (InSome (OfBlock ks) (map block_of bs)) f) known
+    (same_first (InSome (BlockStands (headers_of hs)) bs) (InSome (OfBlock (headers_of hs)) (map block_of bs)) f (some_mapped block_of (OfBlock (headers_of hs)) bs) (mapped_some block_of (OfBlock (headers_of hs)) bs) k)) in
+    let count : IsFirstOf (λ r. count_at (slice_get (blocks (parts_of text ts)) 999) ≡ Some r) (function_cause bs) =
+    subst (λ (o : Option Refusal). IsFirstOf (λ r. count_at (slice_get (blocks (parts_of text ts)) 999) ≡ Some r) o) (sym (count_all bs ∙ ap (λ (ks : List Block). count_at (slice_get ks 999)) b)) (best_of (count_at (slice_get (blocks (parts_of text ts)) 999))) in
+    same_first (ByFamily text ts) (Stands text ts) _ (to_text text ts) (from_text text ts)
+    (either_first (λ r. OfRows (names_in text ts) None (above (parts_of text ts)) r ⊎ InSome OfBare (below (parts_of text ts)) r)
     (λ r. InSome (OfBlock (headers (parts_of text ts))) (blocks (parts_of text ts)) r ⊎ (count_at (slice_get (blocks (parts_of text ts)) 999) ≡ Some r)) _ _
-    (best_or (OfRows (names_in text ts) None (above (parts_of text ts))) (InSome OfBare (below (parts_of text ts))) d e i j)
-    (best_or (InSome (OfBlock (headers (parts_of text ts))) (blocks (parts_of text ts))) (λ r. count_at (slice_get (blocks (parts_of text ts)) 999) ≡ Some r) f (function_cause bs) all count))
+    (either_first (OfRows (names_in text ts) None (above (parts_of text ts))) (InSome OfBare (below (parts_of text ts))) d e i j)
+    (either_first (InSome (OfBlock (headers (parts_of text ts))) (blocks (parts_of text ts))) (λ r. count_at (slice_get (blocks (parts_of text ts)) 999) ≡ Some r) f (function_cause bs) all count))
 
 -- ---- The program
 
-all_bare : (rs : List Row) → ((r : Refusal) → InSome OfBare rs r → ⊥) → All (λ (r : Row). r.words ≡ []) rs
+pub all_bare : (rs : List Row) → ((r : Refusal) → InSome OfBare rs r → ⊥) → All (λ (r : Row). r.words ≡ []) rs
 all_bare [] h = All-nil (λ (r : Row). r.words ≡ [])
 all_bare (x ∷ xs) h = All-cons (λ (r : Row). r.words ≡ []) x xs (bare x.words refl) (all_bare xs (λ r g. h r (inr g)))
   where
@@ -147,16 +149,16 @@ few bs e = pick (nat_lt 999 (length bs)) refl
 
 pub text_program : (text : List ℕ) (ts : List Token) (bs : List HeldBlock) (hs : List HeldHeader) (d e f : Option Refusal) (v : ℤ) (vars : List Var) (fs : List Function) (p : Program)
     → map block_of bs ≡ blocks (parts_of text ts) → headers_of hs ≡ filter_map header_of (map block_of bs)
-    → IsBest (InSome OfBare (below (parts_of text ts))) e
+    → IsFirstOf (InSome OfBare (below (parts_of text ts))) e
     → (d ≡ None → DeclareFrom (names_in text ts) None (above (parts_of text ts)) v vars)
     → (f ≡ None → AllZip (BlockIs text (headers_of hs)) bs fs)
-    → earliest (earliest d e) (earliest f (function_cause bs)) ≡ None
+    → earlier (earlier d e) (earlier f (function_cause bs)) ≡ None
     → p ≡ record { names = names_in text ts; origin = v; vars = vars; functions = fs } → IsProgramOf text ts p
 text_program text ts bs hs d e f v vars fs p b h j s z n g =
     let known : headers_of hs ≡ headers (parts_of text ts) = h ∙ ap (filter_map header_of) b in
-    let outside : earliest d e ≡ None = none_first (earliest d e) (earliest f (function_cause bs)) n in
-    let inside : earliest f (function_cause bs) ≡ None = none_second (earliest d e) (earliest f (function_cause bs)) n in
-    let none : IsBest (InSome OfBare (below (parts_of text ts))) None = subst (λ (o : Option Refusal). IsBest (InSome OfBare (below (parts_of text ts))) o) (none_second d e outside) j in
+    let outside : earlier d e ≡ None = none_first (earlier d e) (earlier f (function_cause bs)) n in
+    let inside : earlier f (function_cause bs) ≡ None = none_second (earlier d e) (earlier f (function_cause bs)) n in
+    let none : IsFirstOf (InSome OfBare (below (parts_of text ts))) None = subst (λ (o : Option Refusal). IsFirstOf (InSome OfBare (below (parts_of text ts))) o) (none_second d e outside) j in
     subst (λ (q : Program). IsProgramOf text ts q) (sym g) (record {
       names = refl;
       declared = declare (names_in text ts) (above (parts_of text ts)) v vars (s (none_first d e outside));
@@ -189,29 +191,29 @@ below_rows text ts p rows P s r h = subst P (ap (map row_of) r ∙ ap (λ (z : S
 pub whole_best : (text : List ℕ) (ts : List Token) (p : Parts) (names : List (List ℕ)) (b2 b4 b6 : List HeldBlock) (r3 r5 : List HeldRow) (hs : List HeldHeader) (d e f k o i t : Option Refusal)
     → sorted_of p ≡ sorted (parts_of text ts) → names ≡ names_in text ts
     → b2 ≡ p.blocks.items → headers_of hs ≡ filter_map header_of (map block_of b2)
-    → r3 ≡ p.above.items → IsBest (OfRows names None (map row_of r3)) d
-    → r5 ≡ p.below.items → IsBest (InSome OfBare (map row_of r5)) e
-    → b4 ≡ p.blocks.items → IsBest (InSome (BlockStands (headers_of hs)) b4) f
-    → b6 ≡ p.blocks.items → k ≡ function_cause b6 → o ≡ earliest d e → i ≡ earliest f k → t ≡ earliest o i → IsBest (Stands text ts) t
+    → r3 ≡ p.above.items → IsFirstOf (OfRows names None (map row_of r3)) d
+    → r5 ≡ p.below.items → IsFirstOf (InSome OfBare (map row_of r5)) e
+    → b4 ≡ p.blocks.items → IsFirstOf (InSome (BlockStands (headers_of hs)) b4) f
+    → b6 ≡ p.blocks.items → k ≡ function_cause b6 → o ≡ earlier d e → i ≡ earlier f k → t ≡ earlier o i → IsFirstOf (Stands text ts) t
 whole_best text ts p names b2 b4 b6 r3 r5 hs d e f k o i t s n q2 h q3 hd q5 he q4 hf q6 hk ho hi ht =
-    subst (λ (z : Option Refusal). IsBest (Stands text ts) z) (sym (ht ∙ ap (λ (z : Option Refusal). earliest z i) ho ∙ ap (earliest (earliest d e)) (hi ∙ ap (earliest f) (hk ∙ ap function_cause q6))))
+    subst (λ (z : Option Refusal). IsFirstOf (Stands text ts) z) (sym (ht ∙ ap (λ (z : Option Refusal). earlier z i) ho ∙ ap (earlier (earlier d e)) (hi ∙ ap (earlier f) (hk ∙ ap function_cause q6))))
     (text_best text ts p.blocks.items hs d e f (blocks_are text ts p s) (h ∙ ap (λ (bs : List HeldBlock). filter_map header_of (map block_of bs)) q2)
-    (above_rows text ts p names r3 (λ (ns : List (List ℕ)) (rs : List Row). IsBest (OfRows ns None rs) d) s n q3 hd)
-    (below_rows text ts p r5 (λ (rs : List Row). IsBest (InSome OfBare rs) e) s q5 he)
-    (subst (λ (bs : List HeldBlock). IsBest (InSome (BlockStands (headers_of hs)) bs) f) q4 hf))
+    (above_rows text ts p names r3 (λ (ns : List (List ℕ)) (rs : List Row). IsFirstOf (OfRows ns None rs) d) s n q3 hd)
+    (below_rows text ts p r5 (λ (rs : List Row). IsFirstOf (InSome OfBare rs) e) s q5 he)
+    (subst (λ (bs : List HeldBlock). IsFirstOf (InSome (BlockStands (headers_of hs)) bs) f) q4 hf))
 
 pub whole_program : (text : List ℕ) (ts : List Token) (p : Parts) (names all : List (List ℕ)) (b2 b4 b6 : List HeldBlock) (r3 r5 : List HeldRow) (hs : List HeldHeader) (d e f k o i t : Option Refusal) (v u : ℤ) (vars xs : List Var) (fs gs : List Function)
     → sorted_of p ≡ sorted (parts_of text ts) → names ≡ names_in text ts → all ≡ names_in text ts
     → b2 ≡ p.blocks.items → headers_of hs ≡ filter_map header_of (map block_of b2)
     → r3 ≡ p.above.items → (d ≡ None → DeclareFrom names None (map row_of r3) v vars)
-    → r5 ≡ p.below.items → IsBest (InSome OfBare (map row_of r5)) e
+    → r5 ≡ p.below.items → IsFirstOf (InSome OfBare (map row_of r5)) e
     → b4 ≡ p.blocks.items → (f ≡ None → AllZip (BlockIs text (headers_of hs)) b4 fs)
-    → b6 ≡ p.blocks.items → k ≡ function_cause b6 → o ≡ earliest d e → i ≡ earliest f k → t ≡ earliest o i → t ≡ None
+    → b6 ≡ p.blocks.items → k ≡ function_cause b6 → o ≡ earlier d e → i ≡ earlier f k → t ≡ earlier o i → t ≡ None
     → u ≡ v → xs ≡ vars → gs ≡ fs → IsProgramOf text ts (record { names = all; origin = u; vars = xs; functions = gs })
 whole_program text ts p names all b2 b4 b6 r3 r5 hs d e f k o i t v u vars xs fs gs s n m q2 h q3 hd q5 he q4 hf q6 hk ho hi ht z w x y =
     text_program text ts p.blocks.items hs d e f v vars fs (record { names = all; origin = u; vars = xs; functions = gs }) (blocks_are text ts p s) (h ∙ ap (λ (bs : List HeldBlock). filter_map header_of (map block_of bs)) q2)
-    (below_rows text ts p r5 (λ (rs : List Row). IsBest (InSome OfBare rs) e) s q5 he)
+    (below_rows text ts p r5 (λ (rs : List Row). IsFirstOf (InSome OfBare rs) e) s q5 he)
     (λ c. above_rows text ts p names r3 (λ (ns : List (List ℕ)) (rs : List Row). DeclareFrom ns None rs v vars) s n q3 (hd c))
     (λ c. subst (λ (bs : List HeldBlock). AllZip (BlockIs text (headers_of hs)) bs fs) q4 (hf c))
-    (sym (ht ∙ ap (λ (g : Option Refusal). earliest g i) ho ∙ ap (earliest (earliest d e)) (hi ∙ ap (earliest f) (hk ∙ ap function_cause q6))) ∙ z)
+    (sym (ht ∙ ap (λ (g : Option Refusal). earlier g i) ho ∙ ap (earlier (earlier d e)) (hi ∙ ap (earlier f) (hk ∙ ap function_cause q6))) ∙ z)
     (program_same m w x y)

@@ -31,3 +31,4 @@ pub mod Saids
 pub mod Families
 pub mod Acting
 pub mod Stated
+pub mod Always

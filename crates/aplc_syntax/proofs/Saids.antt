@@ -12,9 +12,11 @@ use Rattle.aplc_syntax.specs.Layout.{Row, Declaration, nothing, origin, var, pla
 use Rattle.aplc_syntax.specs.Programs.{IsOrigin, Declare}
 use Rattle.aplc_syntax.specs.Refusals.{BeginsAt, DeclaresOrigin, bad_declaration}
 use Rattle.aplc_syntax.specs.Held.{row_of}
-use Rattle.aplc_syntax.specs.Causes.{earliest, IsBest, at_first, said_cause, origin_next, vars_next, OfRows, DeclareFrom, CoversRows}
+use Rattle.aplc_lex.specs.Firsts.{earlier, IsFirstOf}
+use Rattle.aplc_syntax.specs.Causes.{at_first, said_cause, origin_next, vars_next, OfRows, DeclareFrom, CoversRows}
 use Rattle.aplc_syntax.specs.Noted.{origin_or}
-use Rattle.aplc_syntax.proofs.Firsts.{best_or, best_of, earliest_through, none_first, none_second}
+use Rattle.aplc_lex.proofs.Order.{either_first, earlier_through, none_first, none_second}
+use Rattle.aplc_syntax.proofs.Firsts.{best_of}
 
 -- ---- Lines without words
 
@@ -36,7 +38,7 @@ not_nothing w e = cc
 
 -- ---- What a line adds
 
-abbrev Adds : List (List ℕ) → Option ℤ → Row → List Row → ℤ → List Var → List Var → Option Declaration → Type 0
+abbrev pub Adds : List (List ℕ) → Option ℤ → Row → List Row → ℤ → List Var → List Var → Option Declaration → Type 0
 Adds ns o x rest v xs vars d = (more : List Var) × DeclareFrom ns o (x ∷ rest) v more × (vars_next xs d ++ vars ≡ xs ++ more)
 
 plain_next : (o : Option ℤ) → origin_next o (Some nothing) ≡ o
@@ -47,7 +49,7 @@ var_next : (o : Option ℤ) (y : Var) → origin_next o (Some (var y)) ≡ o
 var_next None y = refl
 var_next (Some v) y = refl
 
-adds : (ns : List (List ℕ)) (o : Option ℤ) (x : Row) (rest : List Row) (v : ℤ) (xs vars : List Var) (d : Option Declaration) → declaration ns x ≡ d → said_cause o d x.words ≡ None → DeclareFrom ns (origin_next o d) rest v vars → Adds ns o x rest v xs vars d
+pub adds : (ns : List (List ℕ)) (o : Option ℤ) (x : Row) (rest : List Row) (v : ℤ) (xs vars : List Var) (d : Option Declaration) → declaration ns x ≡ d → said_cause o d x.words ≡ None → DeclareFrom ns (origin_next o d) rest v vars → Adds ns o x rest v xs vars d
 adds ns o x rest v xs vars None e c s = absurd (some_none nothing (sym (bare_says ns x None e c)))
 adds ns o x rest v xs vars (Some nothing) e c s =
     let t : DeclareFrom ns o rest v vars = subst (λ (z : Option ℤ). DeclareFrom ns z rest v vars) (plain_next o) s in
@@ -64,22 +66,22 @@ adds ns (Some u) x rest v xs vars (Some (origin w)) e c s = absurd (not_nothing 
 pub rows_start : (ns : List (List ℕ)) (whole : List Row) (xs : List Var) → xs ≡ [] → CoversRows ns whole whole None None xs
 rows_start ns whole xs i = subst (λ (zs : List Var). CoversRows ns whole whole None None zs) (sym i) (record { first = start; said = λ e v vars s. s })
   where
-    start : (c : Option Refusal) → IsBest (OfRows ns None whole) c → IsBest (OfRows ns None whole) (earliest None c)
+    start : (c : Option Refusal) → IsFirstOf (OfRows ns None whole) c → IsFirstOf (OfRows ns None whole) (earlier None c)
     start None h = h
     start (Some r) h = h
 
-rows_one : (ns : List (List ℕ)) (whole : List Row) (x : Row) (rest : List Row) (a b : Option Refusal) (o q : Option ℤ) (xs ys : List Var) → b ≡ earliest a (said_cause o (declaration ns x) x.words) → q ≡ origin_next o (declaration ns x) → ys ≡ vars_next xs (declaration ns x)
+rows_one : (ns : List (List ℕ)) (whole : List Row) (x : Row) (rest : List Row) (a b : Option Refusal) (o q : Option ℤ) (xs ys : List Var) → b ≡ earlier a (said_cause o (declaration ns x) x.words) → q ≡ origin_next o (declaration ns x) → ys ≡ vars_next xs (declaration ns x)
     → CoversRows ns whole (x ∷ rest) a o xs → CoversRows ns whole rest b q ys
 rows_one ns whole x rest a b o q xs ys e f g h =
     let k : Option Refusal = said_cause o (declaration ns x) x.words in record {
-      first = λ c s. subst (λ (z : Option Refusal). IsBest (OfRows ns None whole) z) (earliest_through a k c ∙ ap (λ (z : Option Refusal). earliest z c) (sym e))
-          (h.first (earliest k c) (best_or (λ r. k ≡ Some r) (OfRows ns (origin_next o (declaration ns x)) rest) k c (best_of k) (subst (λ (z : Option ℤ). IsBest (OfRows ns z rest) c) f s)));
+      first = λ c s. subst (λ (z : Option Refusal). IsFirstOf (OfRows ns None whole) z) (earlier_through a k c ∙ ap (λ (z : Option Refusal). earlier z c) (sym e))
+          (h.first (earlier k c) (either_first (λ r. k ≡ Some r) (OfRows ns (origin_next o (declaration ns x)) rest) k c (best_of k) (subst (λ (z : Option ℤ). IsFirstOf (OfRows ns z rest) c) f s)));
       said = λ n v vars s. (let t = adds ns o x rest v xs vars (declaration ns x) refl (none_second a k (sym e ∙ n)) (subst (λ (z : Option ℤ). DeclareFrom ns z rest v vars) f s) in
           subst (λ (z : List Var). DeclareFrom ns None whole v z) (sym (ap (λ (z : List Var). z ++ vars) g ∙ t.2)) (h.said (none_first a k (sym e ∙ n)) v t.0 t.1));
     }
 
 pub rows_more : (ns : List (List ℕ)) (rows : List HeldRow) (i : ℕ) (x : HeldRow) (a b : Option Refusal) (o q : Option ℤ) (xs ys : List Var) → i < length rows → x ≡ get_or rows i x
-    → b ≡ earliest a (said_cause o (declaration ns (row_of x)) x.words) → q ≡ origin_next o (declaration ns (row_of x)) → ys ≡ vars_next xs (declaration ns (row_of x))
+    → b ≡ earlier a (said_cause o (declaration ns (row_of x)) x.words) → q ≡ origin_next o (declaration ns (row_of x)) → ys ≡ vars_next xs (declaration ns (row_of x))
     → CoversRows ns (map row_of rows) (map row_of (drop i rows)) a o xs → CoversRows ns (map row_of rows) (map row_of (drop (i + 1) rows)) b q ys
 rows_more ns rows i x a b o q xs ys l e f g k h = rows_one ns (map row_of rows) (row_of x) (map row_of (drop (i + 1) rows)) a b o q xs ys f g k
     (subst (λ (z : List HeldRow). CoversRows ns (map row_of rows) (map row_of z) a o xs) (at_drop_more (λ (z : List HeldRow). z) rows i x l ∙ ap (λ (y : HeldRow). y ∷ drop (i + 1) rows) (sym e)) h)
@@ -89,7 +91,7 @@ ended ns None = record { said = []; declared = tt; origin = refl; named = refl }
 ended ns (Some v) = record { said = []; declared = tt; origin = (refl, refl); named = refl }
 
 pub rows_end : (ns : List (List ℕ)) (rows : List HeldRow) (i : ℕ) (a : Option Refusal) (o : Option ℤ) (xs : List Var) → length rows ≤ i → CoversRows ns (map row_of rows) (map row_of (drop i rows)) a o xs
-    → IsBest (OfRows ns None (map row_of rows)) a × (a ≡ None → DeclareFrom ns None (map row_of rows) (origin_or o) xs)
+    → IsFirstOf (OfRows ns None (map row_of rows)) a × (a ≡ None → DeclareFrom ns None (map row_of rows) (origin_or o) xs)
 rows_end ns rows i a o xs l h =
     let g : CoversRows ns (map row_of rows) [] a o xs = subst (λ (z : List HeldRow). CoversRows ns (map row_of rows) (map row_of z) a o xs) (at_drop_all (λ (z : List HeldRow). z) rows i l) h in
     (g.first None (λ r z. z), λ e. subst (λ (z : List Var). DeclareFrom ns None (map row_of rows) (origin_or o) z) (nil xs) (g.said e (origin_or o) [] (ended ns o)))

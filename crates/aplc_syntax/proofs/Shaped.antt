@@ -19,9 +19,11 @@ use Rattle.aplc_syntax.specs.Layout.{Row, Header, header, placed, header_of, sen
 use Rattle.aplc_syntax.specs.Programs.{IsLine, IsClosing}
 use Rattle.aplc_syntax.specs.Refusals.{StandsIn, IsFirst, bad_header, high_count}
 use Rattle.aplc_syntax.specs.Held.{row_of, del_row_of, block_of, header_of_held}
-use Rattle.aplc_syntax.specs.Causes.{earliest, IsBest, InSome, of_header, of_more, of_end, of_line, of_count}
+use Rattle.aplc_lex.specs.Firsts.{earlier, IsFirstOf}
+use Rattle.aplc_syntax.specs.Causes.{InSome, of_header, of_more, of_end, of_line, of_count}
 use Rattle.aplc_syntax.specs.Noted.{LineStands, LineIs, BlockStands, BlockIs, more_cause, end_cause, head_cause, row_cause, line_cause}
-use Rattle.aplc_syntax.proofs.Firsts.{best_or, best_iff, best_of, some_mapped, mapped_some, zip_mapped, contains_some, some_contains, none_first, none_second}
+use Rattle.aplc_lex.proofs.Order.{either_first, same_first, none_first, none_second}
+use Rattle.aplc_syntax.proofs.Firsts.{best_of, some_mapped, mapped_some, zip_mapped, contains_some, some_contains}
 
 -- ---- Two ways to say what a function is refused for
 
@@ -135,32 +137,32 @@ from_block hs b h i _ (of_count {r = r} e) = inl (inl (inr (count_row (slice_get
 
 -- ---- The first
 
-pub block_best : (hs : List Header) (b : HeldBlock) (h : Option HeldHeader) (lines : Option Refusal) → option_map header_of_held h ≡ header_of (block_of b) → IsBest (InSome (LineStands hs) b.body) lines
-    → IsBest (BlockStands hs b) (earliest (earliest (earliest (end_cause b.head.del b.closing) (line_cause b.body)) lines) (head_cause b.head.del h))
+pub block_best : (hs : List Header) (b : HeldBlock) (h : Option HeldHeader) (lines : Option Refusal) → option_map header_of_held h ≡ header_of (block_of b) → IsFirstOf (InSome (LineStands hs) b.body) lines
+    → IsFirstOf (BlockStands hs b) (earlier (earlier (earlier (end_cause b.head.del b.closing) (line_cause b.body)) lines) (head_cause b.head.del h))
 block_best hs b h lines i l =
-    best_iff (ByParts hs b h) (BlockStands hs b) _ (to_block hs b h i) (from_block hs b h i)
-    (best_or (λ r. ((end_cause b.head.del b.closing ≡ Some r) ⊎ (line_cause b.body ≡ Some r)) ⊎ InSome (LineStands hs) b.body r) (λ r. head_cause b.head.del h ≡ Some r) _ _
-    (best_or (λ r. (end_cause b.head.del b.closing ≡ Some r) ⊎ (line_cause b.body ≡ Some r)) (InSome (LineStands hs) b.body) _ _
-    (best_or (λ r. end_cause b.head.del b.closing ≡ Some r) (λ r. line_cause b.body ≡ Some r) _ _ (best_of (end_cause b.head.del b.closing)) (best_of (line_cause b.body)))
+    same_first (ByParts hs b h) (BlockStands hs b) _ (to_block hs b h i) (from_block hs b h i)
+    (either_first (λ r. ((end_cause b.head.del b.closing ≡ Some r) ⊎ (line_cause b.body ≡ Some r)) ⊎ InSome (LineStands hs) b.body r) (λ r. head_cause b.head.del h ≡ Some r) _ _
+    (either_first (λ r. (end_cause b.head.del b.closing ≡ Some r) ⊎ (line_cause b.body ≡ Some r)) (InSome (LineStands hs) b.body) _ _
+    (either_first (λ r. end_cause b.head.del b.closing ≡ Some r) (λ r. line_cause b.body ≡ Some r) _ _ (best_of (end_cause b.head.del b.closing)) (best_of (line_cause b.body)))
     l)
     (best_of (head_cause b.head.del h)))
 
 -- the same by what the calls answered
 pub parts_best : (hs : List Header) (b : HeldBlock) (h : Option HeldHeader) (words : List Word) (rows rows2 : List HeldRow) (lines end line shape first : Option Refusal)
-    → words ≡ b.head.rest → option_map header_of_held h ≡ header (map placed words) → rows ≡ b.body → IsBest (InSome (LineStands hs) rows) lines
-    → end ≡ end_cause b.head.del b.closing → rows2 ≡ b.body → line ≡ line_cause rows2 → shape ≡ earliest end line → first ≡ earliest shape lines
-    → IsBest (BlockStands hs b) (earliest first (head_cause b.head.del h))
+    → words ≡ b.head.rest → option_map header_of_held h ≡ header (map placed words) → rows ≡ b.body → IsFirstOf (InSome (LineStands hs) rows) lines
+    → end ≡ end_cause b.head.del b.closing → rows2 ≡ b.body → line ≡ line_cause rows2 → shape ≡ earlier end line → first ≡ earlier shape lines
+    → IsFirstOf (BlockStands hs b) (earlier first (head_cause b.head.del h))
 parts_best hs b h words rows rows2 lines end line shape first w i e l f g k m n =
-    subst (λ (o : Option Refusal). IsBest (BlockStands hs b) (earliest o (head_cause b.head.del h))) (sym (n ∙ ap (λ (o : Option Refusal). earliest o lines) (m ∙ ap (λ (o : Option Refusal). earliest o line) f ∙ ap (earliest (end_cause b.head.del b.closing)) (k ∙ ap line_cause g))))
-    (block_best hs b h lines (i ∙ ap (λ (ws : List Word). header (map placed ws)) w) (subst (λ (rs : List HeldRow). IsBest (InSome (LineStands hs) rs) lines) e l))
+    subst (λ (o : Option Refusal). IsFirstOf (BlockStands hs b) (earlier o (head_cause b.head.del h))) (sym (n ∙ ap (λ (o : Option Refusal). earlier o lines) (m ∙ ap (λ (o : Option Refusal). earlier o line) f ∙ ap (earlier (end_cause b.head.del b.closing)) (k ∙ ap line_cause g))))
+    (block_best hs b h lines (i ∙ ap (λ (ws : List Word). header (map placed ws)) w) (subst (λ (rs : List HeldRow). IsFirstOf (InSome (LineStands hs) rs) lines) e l))
 
 -- without a header
-pub refused_none : (hs : List Header) (b : HeldBlock) (h : Option HeldHeader) (first : Option Refusal) (x r : Refusal) → IsBest (BlockStands hs b) (earliest first (head_cause b.head.del h)) → h ≡ None → x ≡ refusal bad_header b.head.del → (let o : Option Refusal = Some r in o) ≡ earliest first (Some x) → IsFirst (BlockStands hs b) r
-refused_none hs b h first x r l e f g = subst (λ (o : Option Refusal). IsBest (BlockStands hs b) o) (ap (λ (z : Option HeldHeader). earliest first (head_cause b.head.del z)) e ∙ ap (λ (y : Refusal). earliest first (Some y)) (sym f) ∙ sym g) l
+pub refused_none : (hs : List Header) (b : HeldBlock) (h : Option HeldHeader) (first : Option Refusal) (x r : Refusal) → IsFirstOf (BlockStands hs b) (earlier first (head_cause b.head.del h)) → h ≡ None → x ≡ refusal bad_header b.head.del → (let o : Option Refusal = Some r in o) ≡ earlier first (Some x) → IsFirst (BlockStands hs b) r
+refused_none hs b h first x r l e f g = subst (λ (o : Option Refusal). IsFirstOf (BlockStands hs b) o) (ap (λ (z : Option HeldHeader). earlier first (head_cause b.head.del z)) e ∙ ap (λ (y : Refusal). earlier first (Some y)) (sym f) ∙ sym g) l
 
 -- with one
-pub best_some : (hs : List Header) (b : HeldBlock) (h : Option HeldHeader) (k : HeldHeader) (first o : Option Refusal) → IsBest (BlockStands hs b) (earliest first (head_cause b.head.del h)) → h ≡ Some k → first ≡ o → IsBest (BlockStands hs b) o
-best_some hs b h k first o l e f = subst (λ (z : Option Refusal). IsBest (BlockStands hs b) z) (ap (λ (z : Option HeldHeader). earliest first (head_cause b.head.del z)) e ∙ f) l
+pub best_some : (hs : List Header) (b : HeldBlock) (h : Option HeldHeader) (k : HeldHeader) (first o : Option Refusal) → IsFirstOf (BlockStands hs b) (earlier first (head_cause b.head.del h)) → h ≡ Some k → first ≡ o → IsFirstOf (BlockStands hs b) o
+best_some hs b h k first o l e f = subst (λ (z : Option Refusal). IsFirstOf (BlockStands hs b) z) (ap (λ (z : Option HeldHeader). earlier first (head_cause b.head.del z)) e ∙ f) l
 
 -- ---- What it is
 
@@ -197,10 +199,10 @@ abbrev pub function_of : HeldHeader → List Line → Function
 function_of h lines = record { name = h.name; result = h.result; left = h.left; right = h.right; locals = h.locals; lines = lines }
 
 pub block_is : (text : List ℕ) (hs : List Header) (b : HeldBlock) (h : HeldHeader) (lines : List Line) (at : Option Refusal) (f : Function) → (let o : Option HeldHeader = Some h in option_map header_of_held o) ≡ header_of (block_of b)
-    → earliest (earliest (end_cause b.head.del b.closing) (line_cause b.body)) at ≡ None → (at ≡ None → AllZip (LineIs text hs) b.body lines)
+    → earlier (earlier (end_cause b.head.del b.closing) (line_cause b.body)) at ≡ None → (at ≡ None → AllZip (LineIs text hs) b.body lines)
     → f ≡ record { name = h.name; result = h.result; left = h.left; right = h.right; locals = h.locals; lines = lines } → BlockIs text hs b f
 block_is text hs b h lines at f i e l g =
-    let shape : earliest (end_cause b.head.del b.closing) (line_cause b.body) ≡ None = none_first _ at e in
+    let shape : earlier (end_cause b.head.del b.closing) (line_cause b.body) ≡ None = none_first _ at e in
     subst (λ (x : Function). BlockIs text hs b x) (sym g) (record {
       head = header_of_held h;
       headed = sym i;
@@ -216,8 +218,8 @@ block_is text hs b h lines at f i e l g =
 
 pub parts_is : (text : List ℕ) (hs : List Header) (b : HeldBlock) (h : Option HeldHeader) (k : HeldHeader) (words : List Word) (rows rows2 : List HeldRow) (lines made : List Line) (at end line shape first : Option Refusal)
     → words ≡ b.head.rest → option_map header_of_held h ≡ header (map placed words) → h ≡ Some k → rows ≡ b.body → (at ≡ None → AllZip (LineIs text hs) rows lines)
-    → end ≡ end_cause b.head.del b.closing → rows2 ≡ b.body → line ≡ line_cause rows2 → shape ≡ earliest end line → first ≡ earliest shape at → first ≡ None → made ≡ lines → BlockIs text hs b (function_of k made)
+    → end ≡ end_cause b.head.del b.closing → rows2 ≡ b.body → line ≡ line_cause rows2 → shape ≡ earlier end line → first ≡ earlier shape at → first ≡ None → made ≡ lines → BlockIs text hs b (function_of k made)
 parts_is text hs b h k words rows rows2 lines made at end line shape first w i j e l p g q m n z v = block_is text hs b k lines at (function_of k made)
     (sym (ap (option_map header_of_held) j) ∙ i ∙ ap (λ (ws : List Word). header (map placed ws)) w)
-    (sym (n ∙ ap (λ (o : Option Refusal). earliest o at) (m ∙ ap (λ (o : Option Refusal). earliest o line) p ∙ ap (earliest (end_cause b.head.del b.closing)) (q ∙ ap line_cause g))) ∙ z)
+    (sym (n ∙ ap (λ (o : Option Refusal). earlier o at) (m ∙ ap (λ (o : Option Refusal). earlier o line) p ∙ ap (earlier (end_cause b.head.del b.closing)) (q ∙ ap line_cause g))) ∙ z)
     (λ u. subst (λ (rs : List HeldRow). AllZip (LineIs text hs) rs lines) e (l u)) (ap (function_of k) v)

@@ -1,4 +1,4 @@
--- The first of several refusals, and the causes of refusals by what they belong to.
+-- The causes of refusals by what they belong to.
 use Rattle.std.specs.Prelude.{◌≡◌, ℕ, ◌⊎◌, List, [], ◌∷◌, ◌++◌, filter_map, Contains, Option, Some, None, ℤ, Bool, ◌&&◌, ◌||◌, nat_lt, nat_eq, if◌then◌else◌}
 use Rattle.std.specs.List.{slice_get, AllZip}
 use Rattle.aplc_lex.specs.Tokens.{refusal}
@@ -7,26 +7,10 @@ use Rattle.aplc_syntax.specs.declared.tree.Var.{Var}
 use Rattle.aplc_syntax.specs.declared.word.Word.{Word}
 use Rattle.aplc_syntax.specs.Layout.{Row, Block, Header, Declaration, origin, var, header_of, sentence, declaration, origin_of, var_of}
 use Rattle.aplc_syntax.specs.Programs.{IsOrigin}
-use Rattle.aplc_syntax.specs.Refusals.{IsFirst, StandsIn, BeginsAt, bad_header, high_count, bad_declaration}
+use Rattle.aplc_lex.specs.Firsts.{IsFirstOf, earlier}
+use Rattle.aplc_syntax.specs.Refusals.{StandsIn, BeginsAt, bad_header, high_count, bad_declaration}
 
--- ---- The first
-
--- at a smaller place, or there with a smaller number
-abbrev pub is_sooner : Refusal → Refusal → Bool
-is_sooner r s = nat_lt r.place s.place || (nat_eq r.place s.place && nat_lt r.number s.number)
-
-abbrev pub sooner : Refusal → Refusal → Refusal
-sooner r s = if is_sooner s r then s else r
-
-abbrev pub earliest : Option Refusal → Option Refusal → Option Refusal
-earliest a None = a
-earliest None (Some s) = Some s
-earliest (Some r) (Some s) = Some (sooner r s)
-
--- the first refusal that stands, or none where none stands
-abbrev pub IsBest : (Refusal → Type 0) → Option Refusal → Type 0
-IsBest P None = (r : Refusal) → P r → ⊥
-IsBest P (Some r) = IsFirst P r
+-- ---- Lists
 
 -- a refusal of one of these
 abbrev pub InSome : {A : Type 0} → (A → Refusal → Type 0) → List A → Refusal → Type 0
@@ -35,7 +19,7 @@ InSome P (x ∷ xs) r = P x r ⊎ InSome P xs r
 
 -- where none stands, the items are these and then l
 abbrev pub IsNoted : {A L : Type 0} → (A → Refusal → Type 0) → (A → L → Type 0) → A → (a b : Option Refusal) → (xs ys : List L) → Type 0
-IsNoted {L = L} P R x a b xs ys = (c : Option Refusal) × IsBest (P x) c × (b ≡ earliest a c) × (c ≡ None → (l : L) × R x l × (ys ≡ xs ++ l ∷ []))
+IsNoted {L = L} P R x a b xs ys = (c : Option Refusal) × IsFirstOf (P x) c × (b ≡ earlier a c) × (c ≡ None → (l : L) × R x l × (ys ≡ xs ++ l ∷ []))
 
 -- ---- A function
 
@@ -94,10 +78,10 @@ OfBare r s = at_first bad_declaration r.words ≡ Some s
 
 -- with the first refusal a and the items xs, these elements are done but for the rest
 pub record Covers {A L : Type 0} (P : A → Refusal → Type 0) (R : A → L → Type 0) (whole rest : List A) (a : Option Refusal) (xs : List L) : Type 0 where
-  pub first : (c : Option Refusal) → IsBest (InSome P rest) c → IsBest (InSome P whole) (earliest a c)
+  pub first : (c : Option Refusal) → IsFirstOf (InSome P rest) c → IsFirstOf (InSome P whole) (earlier a c)
   pub items : a ≡ None → (ls : List L) → AllZip R rest ls → AllZip R whole (xs ++ ls)
 
 -- the same for lines before the first function
 pub record CoversRows (ns : List (List ℕ)) (whole rest : List Row) (a : Option Refusal) (o : Option ℤ) (xs : List Var) : Type 0 where
-  pub first : (c : Option Refusal) → IsBest (OfRows ns o rest) c → IsBest (OfRows ns None whole) (earliest a c)
+  pub first : (c : Option Refusal) → IsFirstOf (OfRows ns o rest) c → IsFirstOf (OfRows ns None whole) (earlier a c)
   pub said : a ≡ None → (v : ℤ) (vars : List Var) → DeclareFrom ns o rest v vars → DeclareFrom ns None whole v (xs ++ vars)

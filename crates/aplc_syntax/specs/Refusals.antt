@@ -1,11 +1,11 @@
 -- The refusals of a text and its tokens, and the first of them.
 use Rattle.std.specs.Prelude.{◌≡◌, ◌<◌, ℕ, List, [], ◌∷◌, Contains, Option, Some, None, Bool, true, false, if◌then◌else◌}
 use Rattle.std.specs.List.{slice_get}
-use Rattle.aplc_lex.specs.Tokens.{refusal, IsBefore}
+use Rattle.aplc_lex.specs.Firsts.{refusal}
+pub use Rattle.aplc_lex.specs.Firsts.{IsFirst, SaysFirst}
 use Rattle.aplc_lex.specs.declared.token.Token.{Token}
 use Rattle.aplc_lex.specs.declared.token.Refusal.{Refusal}
 use Rattle.aplc_lex.specs.declared.token.Stop.{Stop}
-use Rattle.aplc_lex.specs.declared.token.Stop.TheVariants as stop
 use Rattle.aplc_syntax.specs.declared.word.Arity.TheVariants as arity
 use Rattle.aplc_syntax.specs.declared.word.Role.{Role}
 use Rattle.aplc_syntax.specs.declared.word.Role.TheVariants as role
@@ -40,18 +40,6 @@ bad_declaration = 11
 
 abbrev pub no_function : ℕ
 no_function = 13
-
--- ---- The first
-
--- a refusal that stands, and before which none stands
-pub record IsFirst (P : Refusal → Type 0) (r : Refusal) : Type 0 where
-  pub stands : P r
-  pub first : (s : Refusal) → P s → IsBefore r s
-
--- what an error says: the first refusal that stands, or nothing but that memory was wanting
-abbrev pub SaysFirst : (Refusal → Type 0) → Stop → Type 0
-SaysFirst P (stop.Refused r) = IsFirst P r
-SaysFirst P stop.Memory = Unit {0}
 
 -- ---- A statement
 

@@ -13,12 +13,13 @@ use std::test::Fail;
 ///
 /// A tree is written as its function, `@` with its place, and its arguments. A value that is displayed has `d` before
 /// it, a quiet one `q`, a branch `g` with its place.
-const LINES: [(&str, &str); 51] = [
+const LINES: [(&str, &str); 54] = [
     ("", "e"),
     ("7", "d 7@8"),
     ("¯7 0", "d -7 0@8"),
     ("''", "d ''@8"),
     ("'it''s'", "d 'it's'@8"),
+    ("'''''≢'", "d '''≢'@8"),
     ("A", "d A@8"),
     ("⍞", "d ⍞@8"),
     ("+/⎕NUMS", "d Reduce(Add, Last)@8(⎕NUMS@10)"),
@@ -51,9 +52,11 @@ const LINES: [(&str, &str); 51] = [
     ("A∘.×B", "d Outer(Mul)@9(A@8 B@15)"),
     ("A+.×B", "d Inner(Add, Mul)@9(A@8 B@13)"),
     ("A[1;]", "d Index@9(A@8 [1@10 -])"),
+    ("A[1;]+2", "d Scalar(Add)@13(Index@9(A@8 [1@10 -]) 2@14)"),
     ("1 2 3[2]", "d Index@13(1 2 3@8 [2@14])"),
     ("A[B[1];2]", "d Index@9(A@8 [Index@11(B@10 [1@12]) 2@15])"),
     ("((A))[1]", "d Index@13(A@10 [1@14])"),
+    ("A←1 2", "q ←A@8(1 2@12)"),
     ("A←B←3", "q ←A@8(←B@12(3@16))"),
     ("(A←5)+A", "d Scalar(Add)@15(←A@9(5@13) A@16)"),
     ("A[;]←5", "q ←A@8([- -] 5@15)"),
@@ -70,7 +73,7 @@ const LINES: [(&str, &str); 51] = [
     ("1 P2 3", "q P2@10(1@8 3@13)"),
 ];
 
-const REFUSED: [(&str, &str); 33] = [
+const REFUSED: [(&str, &str); 34] = [
     ("3+", "7 at 8"),
     ("+", "7 at 8"),
     (")", "7 at 8"),
@@ -93,6 +96,7 @@ const REFUSED: [(&str, &str); 33] = [
     ("FOO 3", "13 at 8"),
     ("A 'x'", "13 at 8"),
     ("A(1)", "13 at 8"),
+    ("(A 1)", "13 at 9"),
     ("A⍞", "13 at 8"),
     ("A⎕NUMS", "13 at 8"),
     ("A P0", "13 at 8"),
@@ -407,6 +411,21 @@ fn most_bytes(rt: HostRuntime) -> Result<(), Fail> {
     assert_eq!(rt;
         answer(alloc, source.as_str().as_bytes())?.as_str(),
         "d Scalar(Add)@9(2@8 Scalar(Mul)@11(3@10 4@13))"
+    );
+    Ok(())
+}
+
+/// Empty places are no nodes: an index list may have as many as its source has bytes for.
+#[test]
+fn most_places(rt: HostRuntime) -> Result<(), Fail> {
+    let alloc = rt.alloc();
+    let places = times(alloc, ";", 261_999)?;
+    let source = format!(in alloc; "∇MAIN\nA[{places}]\n∇")?;
+    let gaps = times(alloc, "- ", 261_999)?;
+    let expected = format!(in alloc; "d Index@9(A@8 [{gaps}-])")?;
+    assert_eq!(rt;
+        answer(alloc, source.as_str().as_bytes())?.as_str(),
+        expected.as_str()
     );
     Ok(())
 }

@@ -9,16 +9,16 @@ ghost use Rattle.aplc_lex.specs.declared.token.Stop.TheVariants as stop;
 ghost use Rattle.aplc_syntax.specs.Words.{Laid};
 ghost use Rattle.aplc_syntax.specs.Refusals.{SaysFirst};
 ghost use Rattle.aplc_syntax.specs.Held.{row_of, block_of};
-ghost use Rattle.aplc_syntax.specs.Causes.{IsBest, InSome, IsNoted};
+ghost use Rattle.aplc_lex.specs.Firsts.{IsFirstOf, earlier};
+ghost use Rattle.aplc_syntax.specs.Causes.{InSome, IsNoted};
 ghost use Rattle.aplc_syntax.specs.Noted.{headers_of, LineStands, LineIs, BlockStands, BlockIs, RowsLaid, BlocksLaid, end_cause, line_cause, function_cause};
 
-use crate::earliest::{earlier, earliest};
 use crate::header::{label, read_header};
 use crate::layout::{Block, DelRow, Row};
 use crate::roles::Known;
 use crate::statement::statement;
 use crate::tree::{Function, Line};
-use aplc_lex::{List, Refusal, Stop};
+use aplc_lex::{List, Refusal, Stop, earlier, sooner};
 use std::alloc::Global;
 
 const BAD_HEADER: u8 = 6;
@@ -31,6 +31,16 @@ fn refusal(number: u8, place: u32) -> Refusal
     Refusal {
         number,
         place: place as u64,
+    }
+}
+
+/// The first of a refusal and another, if there is one.
+fn sooner_of(a: Option<Refusal>, b: Refusal) -> Refusal
+    ensures { Some result ≡ earlier a (Some b) }
+{
+    match a {
+        None => b,
+        Some(r) => sooner(r, b),
     }
 }
 
@@ -77,7 +87,7 @@ impl Body {
             },
             Err(Stop::Memory) => Err(Stop::Memory),
             Err(Stop::Refused(refusal)) => {
-                self.first = earliest(self.first, Some(refusal));
+                self.first = earlier(self.first, Some(refusal));
                 Ok(())
             }
         }
@@ -88,7 +98,7 @@ impl Body {
 fn lines_of(alloc: Global, text: &[u8], known: &Known, rows: &[Row]) -> Result<Body, Stop>
     requires length { length text.now ≤ 262144 }
     requires laid { RowsLaid text.now (map row_of rows.now) }
-    ensures first { IfOk result (λ b. IsBest (InSome (LineStands (headers_of known.now.headers.items)) rows.now) b.first) }
+    ensures first { IfOk result (λ b. IsFirstOf (InSome (LineStands (headers_of known.now.headers.items)) rows.now) b.first) }
     ensures lines { IfOk result (λ b. b.first ≡ None → AllZip (LineIs text.now (headers_of known.now.headers.items)) rows.now b.lines.items) }
     ensures memory { IfErr result (λ e. e ≡ stop.Memory) }
 {
@@ -155,10 +165,10 @@ fn function(alloc: Global, text: &[u8], known: &Known, block: &Block) -> Result<
         Err(_) => return Err(Stop::Memory),
     };
     let end = end_cause(block.head.del, &block.closing);
-    let shape = earliest(end, line_cause(block.body.as_slice()));
-    let first = earliest(shape, body.first);
+    let shape = earlier(end, line_cause(block.body.as_slice()));
+    let first = earlier(shape, body.first);
     match header {
-        None => Err(Stop::Refused(earlier(first, refusal(BAD_HEADER, block.head.del)))),
+        None => Err(Stop::Refused(sooner_of(first, refusal(BAD_HEADER, block.head.del)))),
         Some(header) => match first {
             Some(refusal) => Err(Stop::Refused(refusal)),
             None => Ok(Function {
@@ -194,7 +204,7 @@ impl Functions {
             },
             Err(Stop::Memory) => Err(Stop::Memory),
             Err(Stop::Refused(refusal)) => {
-                self.first = earliest(self.first, Some(refusal));
+                self.first = earlier(self.first, Some(refusal));
                 Ok(())
             }
         }
@@ -210,7 +220,7 @@ pub fn functions_of(
 ) -> Result<Functions, Stop>
     requires length { length text.now ≤ 262144 }
     requires laid { BlocksLaid text.now (map block_of blocks.now) }
-    ensures first { IfOk result (λ f. IsBest (InSome (BlockStands (headers_of known.now.headers.items)) blocks.now) f.first) }
+    ensures first { IfOk result (λ f. IsFirstOf (InSome (BlockStands (headers_of known.now.headers.items)) blocks.now) f.first) }
     ensures functions { IfOk result (λ f. f.first ≡ None → AllZip (BlockIs text.now (headers_of known.now.headers.items)) blocks.now f.functions.items) }
 {
     let mut functions = Functions {

@@ -4,7 +4,6 @@
 
 mod building;
 mod checking;
-mod earliest;
 #[cfg(test)]
 mod form_tests;
 mod functions;
@@ -19,8 +18,6 @@ mod reading;
 mod roles;
 mod stack;
 mod statement;
-#[cfg(test)]
-mod statement_tests;
 mod step;
 #[cfg(test)]
 mod tests;
@@ -29,9 +26,10 @@ mod tree;
 mod word;
 
 pub use aplc_lex::{List, Refusal, Stop};
-pub use laws::{one_program, one_statement};
+pub use laws::{always_one, one_program, one_refusal, one_statement, program_or_refusal};
 pub use parsing::parse;
 pub use tree::{
     Axis, Form, Function, Line, NameId, Named, Node, NodeId, Primitive as Prim, Program, Statement,
     Var,
 };
+pub use word::{Arity, Role, Stroke, Word, WordKind};

@@ -6,15 +6,15 @@ ghost use Rattle.aplc_lex.specs.Tokens.{refusal};
 ghost use Rattle.aplc_syntax.specs.Layout.{declaration};
 ghost use Rattle.aplc_syntax.specs.Refusals.{bad_declaration};
 ghost use Rattle.aplc_syntax.specs.Held.{row_of, declared_of};
-ghost use Rattle.aplc_syntax.specs.Causes.{IsBest, InSome, at_first, said_cause, origin_next, vars_next, earliest, OfRows, DeclareFrom, OfBare};
+ghost use Rattle.aplc_lex.specs.Firsts.{IsFirstOf, earlier};
+ghost use Rattle.aplc_syntax.specs.Causes.{InSome, at_first, said_cause, origin_next, vars_next, OfRows, DeclareFrom, OfBare};
 ghost use Rattle.aplc_syntax.specs.Noted.{origin_or};
 
-use crate::earliest::earliest;
 use crate::header::{Declaration, read_declaration};
 use crate::layout::Row;
 use crate::tree::Var;
 use crate::word::Word;
-use aplc_lex::{List, Refusal};
+use aplc_lex::{List, Refusal, earlier};
 use std::alloc::{AllocError, Global};
 
 const BAD_DECLARATION: u8 = 11;
@@ -83,14 +83,14 @@ impl Declared {
 
     /// One more line.
     fn note(&mut self, names: &[List<u8>], row: &Row) -> Result<(), AllocError>
-        ensures { OnOk result ((self.new.first ≡ earliest self.old.first (said_cause self.old.origin (declaration names.now (row_of row.now)) row.now.words))
+        ensures { OnOk result ((self.new.first ≡ earlier self.old.first (said_cause self.old.origin (declaration names.now (row_of row.now)) row.now.words))
             × (self.new.origin ≡ origin_next self.old.origin (declaration names.now (row_of row.now)))
             × (self.new.vars.items ≡ vars_next self.old.vars.items (declaration names.now (row_of row.now)))) }
     {
         let words = row.words.as_slice();
         let said = read_declaration(names, words);
         self.add(said)?;
-        self.first = earliest(self.first, said_cause(self.origin, said, words));
+        self.first = earlier(self.first, said_cause(self.origin, said, words));
         self.origin = origin_next(self.origin, said);
         Ok(())
     }
@@ -108,7 +108,7 @@ impl Declared {
 
 /// What the lines before the first function declare, where these are the names of the text.
 pub fn declarations(alloc: Global, names: &[List<u8>], rows: &[Row]) -> Result<Declared, AllocError>
-    ensures first { IfOk result (λ d. IsBest (OfRows names.now None (map row_of rows.now)) d.first) }
+    ensures first { IfOk result (λ d. IsFirstOf (OfRows names.now None (map row_of rows.now)) d.first) }
     ensures said { IfOk result (λ d. d.first ≡ None → DeclareFrom names.now None (map row_of rows.now) (origin_or d.origin) d.vars.items) }
 {
     let mut declared = Declared {
@@ -124,11 +124,11 @@ pub fn declarations(alloc: Global, names: &[List<u8>], rows: &[Row]) -> Result<D
 
 /// The first refusal of the lines outside functions behind the first function.
 pub fn bare_cause(rows: &[Row]) -> Option<Refusal>
-    ensures { IsBest (InSome OfBare (map row_of rows.now)) result }
+    ensures { IsFirstOf (InSome OfBare (map row_of rows.now)) result }
 {
     let mut first = None;
     for row in rows {
-        first = earliest(first, at_first(row.words.as_slice()));
+        first = earlier(first, at_first(row.words.as_slice()));
     }
     first
 }

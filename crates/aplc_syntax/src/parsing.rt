@@ -9,14 +9,13 @@ ghost use Rattle.aplc_syntax.specs.Programs.{IsProgramOf, program_ids};
 ghost use Rattle.aplc_syntax.specs.Refusals.{Stands, Refuses};
 ghost use Rattle.aplc_syntax.specs.declared.tree.Program.{Program};
 
-use crate::earliest::earliest;
 use crate::functions::{function_cause, functions_of};
 use crate::layout::parts_of;
 use crate::names::words;
 use crate::outside::{bare_cause, declarations};
 use crate::roles::known_of;
 use crate::tree::Program;
-use aplc_lex::{List, Stop, Token};
+use aplc_lex::{List, Stop, Token, earlier};
 use std::alloc::Global;
 
 /// The program of the tokens of a text, or its first refusal.
@@ -46,9 +45,9 @@ fn program(alloc: Global, text: &[u8], tokens: &[Token]) -> Result<Program, Stop
         Ok(inside) => inside,
         Err(_) => return Err(Stop::Memory),
     };
-    let outside_first = earliest(declared.first, bare_cause(&parts.below));
-    let inside_first = earliest(inside.first, function_cause(&parts.blocks));
-    match earliest(outside_first, inside_first) {
+    let outside_first = earlier(declared.first, bare_cause(&parts.below));
+    let inside_first = earlier(inside.first, function_cause(&parts.blocks));
+    match earlier(outside_first, inside_first) {
         Some(refusal) => Err(Stop::Refused(refusal)),
         None => Ok(Program {
             names,

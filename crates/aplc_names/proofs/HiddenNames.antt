@@ -12,7 +12,8 @@ use Rattle.aplc_names.specs.declared.outline.Mention.{Mention}
 use Rattle.aplc_names.specs.declared.outline.Outline.{Outline}
 use Rattle.aplc_names.specs.Tables.{first, stands_in, is_named}
 use Rattle.aplc_names.specs.Scopes.{function_names, own_name, Names, Leads, directly, over}
-use Rattle.aplc_names.specs.Firsts.{Among, IsFirstOf, refused_if, earlier}
+use Rattle.aplc_lex.specs.Firsts.{IsFirstOf, earlier}
+use Rattle.aplc_names.specs.Firsts.{Among, refused_if}
 use Rattle.aplc_names.specs.Clashes.{IsHidden, IsShadowed, shadow}
 use Rattle.aplc_names.specs.Graphs.{row_of, row_or, Lists, Reaches, edge, on, IsGraph, IsMarked, is_set, Spreads, Adds, AreReach, callees, graph, all_locals, locals_of, places_in, ids, IsListed, Hides, is_set_at, Tells}
 use Rattle.aplc_names.proofs.Firsts.{clash, at_first, found_by, named_is, is_named_of}

@@ -6,50 +6,15 @@ use Rattle.std.proofs.lemmas.Option.{slice_get-get_or, slice_get_within}
 use Rattle.aplc_lex.specs.Tokens.{refusal, IsBefore}
 use Rattle.aplc_lex.specs.declared.token.Refusal.{Refusal}
 use Rattle.aplc_syntax.specs.declared.tree.Named.{Named}
-use Rattle.aplc_syntax.specs.Refusals.{IsFirst}
+use Rattle.aplc_lex.specs.Firsts.{IsFirst}
 use Rattle.aplc_names.specs.declared.outline.Mention.{Mention}
 use Rattle.aplc_names.specs.declared.outline.Outline.{Outline}
-use Rattle.aplc_names.specs.Firsts.{Somewhere, Among, IsFirstOf, comes_before, earlier, refused_if, is_before}
+use Rattle.aplc_lex.specs.Firsts.{IsFirstOf, comes_before, earlier}
+use Rattle.aplc_names.specs.Firsts.{Somewhere, Among, refused_if, is_before}
+use Rattle.aplc_lex.proofs.Order.{either_first, same_first}
 use Rattle.aplc_names.proofs.Firsts.{clash, at_first, found_by, named_is, is_named_of, some_before, before_some}
 use Rattle.aplc_names.specs.Tables.{first, stands_in, is_named}
 use Rattle.aplc_names.specs.Clashes.{IsAgain, IsTaken, IsAssigned, IsMainless, StandsIn, local_again, local_taken, name_assigned, is_start, main_place, twice, assigned, no_main}
-
--- ---- The order
-
-before_true : (p q m n : ℕ) → (nat_lt p q || (nat_eq p q && nat_lt m n)) ≡ true → (p < q) ⊎ ((p ≡ q) × (m ≤ n))
-before_true p q m n h = grind (arith, nat_tests)
-
-before_false : (p q m n : ℕ) → (nat_lt p q || (nat_eq p q && nat_lt m n)) ≡ false → (q < p) ⊎ ((q ≡ p) × (n ≤ m))
-before_false p q m n h = grind (arith, nat_tests)
-
-trans_of : (a b c k l m : ℕ) → (a < b) ⊎ ((a ≡ b) × (k ≤ l)) → (b < c) ⊎ ((b ≡ c) × (l ≤ m)) → (a < c) ⊎ ((a ≡ c) × (k ≤ m))
-trans_of a b c k l m (inl x) (inl y) = inl (omega arith)
-trans_of a b c k l m (inl x) (inr (y, z)) = inl (omega arith)
-trans_of a b c k l m (inr (x, w)) (inl y) = inl (omega arith)
-trans_of a b c k l m (inr (x, w)) (inr (y, z)) = inr (omega arith, omega arith)
-
-before_trans : (r s t : Refusal) → IsBefore r s → IsBefore s t → IsBefore r t
-before_trans r s t h k = trans_of r.place s.place t.place r.number s.number t.number h k
-
--- ---- Two kinds
-
-chosen : (P Q : Refusal → Type 0) (r t : Refusal) → IsFirst P r → IsFirst Q t → (b : Bool) → comes_before t r ≡ b → IsFirstOf (λ x. P x ⊎ Q x) (if b then Some t else Some r)
-chosen P Q r t p q true e =
-    let le : IsBefore t r = before_true t.place r.place t.number r.number e in
-    record { stands = inr q.stands; first = λ s h. elim h as (λ _. IsBefore t s) [ inl x ↦ before_trans t r s le (p.first s x) | inr y ↦ q.first s y ] }
-chosen P Q r t p q false e =
-    let le : IsBefore r t = before_false t.place r.place t.number r.number e in
-    record { stands = inl p.stands; first = λ s h. elim h as (λ _. IsBefore r s) [ inl x ↦ p.first s x | inr y ↦ before_trans r t s le (q.first s y) ] }
-
-pub either_first : (P Q : Refusal → Type 0) (a b : Option Refusal) → IsFirstOf P a → IsFirstOf Q b → IsFirstOf (λ x. P x ⊎ Q x) (earlier a b)
-either_first P Q None None p q = λ s h. elim h as (λ _. ⊥) [ inl x ↦ p s x | inr y ↦ q s y ]
-either_first P Q None (Some t) p q = record { stands = inr q.stands; first = λ s h. elim h as (λ _. IsBefore t s) [ inl x ↦ absurd (p s x) | inr y ↦ q.first s y ] }
-either_first P Q (Some r) None p q = record { stands = inl p.stands; first = λ s h. elim h as (λ _. IsBefore r s) [ inl x ↦ p.first s x | inr y ↦ absurd (q s y) ] }
-either_first P Q (Some r) (Some t) p q = chosen P Q r t p q (comes_before t r) refl
-
-pub same_first : (P Q : Refusal → Type 0) (a : Option Refusal) → ((r : Refusal) → P r → Q r) → ((r : Refusal) → Q r → P r) → IsFirstOf P a → IsFirstOf Q a
-same_first P Q None f g p = λ s h. p s (g s h)
-same_first P Q (Some r) f g p = record { stands = f r p.stands; first = λ s h. p.first s (g s h) }
 
 -- ---- One test
 

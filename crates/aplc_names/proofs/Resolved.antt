@@ -16,10 +16,11 @@ use Rattle.aplc_names.specs.declared.outline.Outline.{Outline}
 use Rattle.aplc_names.specs.Outlines.{outline, outlines}
 use Rattle.aplc_names.specs.Scopes.{function_names, own_name}
 use Rattle.aplc_names.specs.Lookups.{label_lines, all_label_lines}
-use Rattle.aplc_names.specs.Firsts.{Somewhere, IsFirstOf, earlier}
+use Rattle.aplc_lex.specs.Firsts.{IsFirstOf, earlier}
+use Rattle.aplc_names.specs.Firsts.{Somewhere}
 use Rattle.aplc_names.specs.Clashes.{IsAgain, IsTaken, IsMainless, IsShadowedIn, StandsIn, StandsAmong, function_again, var_again, var_taken, mainless, in_function, in_shadow, Stands, var_name}
 use Rattle.aplc_names.specs.Programs.{IsParsed}
-use Rattle.aplc_names.proofs.Minima.{either_first, same_first}
+use Rattle.aplc_lex.proofs.Order.{either_first, same_first}
 
 -- ---- Six kinds
 

@@ -4,14 +4,15 @@
 ghost use Rattle.std.specs.Prelude.{◌≡◌, ◌&&◌, ◌||◌};
 ghost use Rattle.std.specs.List.{list_any};
 ghost use Rattle.aplc_names.specs.Tables.{first, stands_in};
-ghost use Rattle.aplc_names.specs.Firsts.{Somewhere, IsFirstOf, is_before};
+ghost use Rattle.aplc_lex.specs.Firsts.{IsFirstOf};
+ghost use Rattle.aplc_names.specs.Firsts.{Somewhere, is_before};
 ghost use Rattle.aplc_names.specs.Clashes.{IsAgain, IsTaken, IsAssigned, IsMainless, StandsIn, is_start, main_place};
 
 use crate::entry::is_main;
-use crate::minimum::{earlier, refused_if};
+use crate::minimum::refused_if;
 use crate::outline::{Mention, Outline};
 use crate::table::Table;
-use aplc_lex::{List, Refusal};
+use aplc_lex::{List, Refusal, earlier};
 use aplc_syntax::{NameId, Named};
 
 const TWICE: u8 = 12;

@@ -6,15 +6,16 @@ ghost use Rattle.std.specs.List.{slice_get};
 ghost use Rattle.std.specs.Option.{option_to_list};
 ghost use Rattle.aplc_names.specs.Tables.{first, stands_in};
 ghost use Rattle.aplc_names.specs.Scopes.{function_names};
-ghost use Rattle.aplc_names.specs.Firsts.{Somewhere, IsFirstOf};
+ghost use Rattle.aplc_lex.specs.Firsts.{IsFirstOf};
+ghost use Rattle.aplc_names.specs.Firsts.{Somewhere};
 ghost use Rattle.aplc_names.specs.Clashes.{IsShadowed, IsShadowedIn};
 ghost use Rattle.aplc_names.specs.Graphs.{callees, graph, all_locals, places_in, ids, is_set, is_set_at, Adds, Hides, Tells};
 
 use crate::graph::{blank, is_set, reaches, row, spread};
-use crate::minimum::{earlier, refused_if};
+use crate::minimum::refused_if;
 use crate::outline::Outline;
 use crate::table::Table;
-use aplc_lex::{List, Refusal};
+use aplc_lex::{List, Refusal, earlier};
 use aplc_syntax::NameId;
 use std::alloc::{AllocError, Global};
 

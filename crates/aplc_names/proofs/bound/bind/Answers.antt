@@ -1,5 +1,5 @@
 use Rattle.std.proofs.Common.{subst}
-use Rattle.aplc_names.specs.Firsts.{IsFirstOf}
+use Rattle.aplc_lex.specs.Firsts.{IsFirstOf}
 use Rattle.aplc_names.specs.Clashes.{Stands}
 use Rattle.aplc_names.proofs.Grammatical.{is_grammatical}
 use Rattle.aplc_names.proofs.bound.bind.Goals as goal

@@ -1,6 +1,7 @@
 use Rattle.std.proofs.Common.{◌∙◌, ap, subst}
 use Rattle.std.specs.Prelude.{map}
-use Rattle.aplc_names.specs.Firsts.{IsFirstOf, Somewhere}
+use Rattle.aplc_lex.specs.Firsts.{IsFirstOf}
+use Rattle.aplc_names.specs.Firsts.{Somewhere}
 use Rattle.aplc_names.specs.Clashes.{IsTaken, IsMainless, var_name}
 use Rattle.aplc_names.proofs.Resolved.{first_stands}
 use Rattle.aplc_names.proofs.bound.first_refusal.Goals as goal

@@ -1,5 +1,6 @@
 use Rattle.std.proofs.Common.{arith, subst}
-use Rattle.aplc_names.specs.Firsts.{Somewhere, IsFirstOf}
+use Rattle.aplc_lex.specs.Firsts.{IsFirstOf}
+use Rattle.aplc_names.specs.Firsts.{Somewhere}
 use Rattle.aplc_names.specs.Clashes.{IsAgain}
 use Rattle.aplc_names.proofs.Minima.{none_yet, again_more, all_of}
 use Rattle.aplc_names.proofs.clashes.again.Goals as goal

@@ -1,4 +1,5 @@
-use Rattle.aplc_names.specs.Firsts.{Among, IsFirstOf}
+use Rattle.aplc_lex.specs.Firsts.{IsFirstOf}
+use Rattle.aplc_names.specs.Firsts.{Among}
 use Rattle.aplc_names.specs.Clashes.{IsAgain}
 use Rattle.aplc_names.proofs.clashes.again.Given as goal
 

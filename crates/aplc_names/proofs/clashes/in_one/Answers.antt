@@ -1,5 +1,6 @@
 use Rattle.std.proofs.Common.{◌∙◌, sym, ap, subst}
-use Rattle.aplc_names.specs.Firsts.{IsFirstOf, Somewhere, earlier}
+use Rattle.aplc_lex.specs.Firsts.{IsFirstOf, earlier}
+use Rattle.aplc_names.specs.Firsts.{Somewhere}
 use Rattle.aplc_names.specs.Clashes.{StandsIn, IsTaken}
 use Rattle.aplc_names.proofs.Minima.{in_one}
 use Rattle.aplc_names.proofs.clashes.in_one.Goals as goal

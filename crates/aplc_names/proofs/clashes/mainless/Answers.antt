@@ -1,5 +1,6 @@
 use Rattle.std.proofs.Common.{◌∙◌, sym, ap, subst, not}
-use Rattle.aplc_names.specs.Firsts.{IsFirstOf, refused_if}
+use Rattle.aplc_lex.specs.Firsts.{IsFirstOf}
+use Rattle.aplc_names.specs.Firsts.{refused_if}
 use Rattle.aplc_names.specs.Clashes.{IsMainless, no_main}
 use Rattle.aplc_names.proofs.Minima.{mainless}
 use Rattle.aplc_names.proofs.clashes.mainless.Goals as goal

@@ -6,11 +6,12 @@ use Rattle.aplc_cprof.specs.declared.syntax.Int.TheVariants as int
 use Rattle.aplc_cprof.specs.declared.syntax.Checked.{Checked}
 use Rattle.aplc_cprof.specs.declared.syntax.Checked.TheVariants as checked
 use Rattle.aplc_cprof.specs.declared.syntax.CStmt.{CStmt}
-use Rattle.aplc_syntax.specs.declared.tree.Form.{Form, fold-Form}
+use Rattle.aplc_syntax.specs.declared.tree.Form.{Form}
 use Rattle.aplc_syntax.specs.declared.tree.Line.{Line}
 use Rattle.aplc_syntax.specs.declared.tree.Primitive.{Primitive}
 use Rattle.aplc_syntax.specs.declared.tree.Primitive.TheVariants as pr
-use Rattle.aplc_names.specs.Literals.{form_numbers, numbers_step, statement_numbers}
+use Rattle.aplc_syntax.specs.PlainTrees.{tree_in}
+use Rattle.aplc_names.specs.Literals.{tree_numbers, statement_numbers}
 use Rattle.aplc_names.specs.Sums.{Sum, number, Task, nothing}
 use Rattle.aplc_gen.specs.Emitted.{checked_of}
 use Rattle.aplc_gen.specs.declared.frame.Frame.{Frame}
@@ -74,7 +75,7 @@ AreInRange zs = All (λ z. in_range z ≡ true) zs
 
 -- the numbers of the literals in a form
 abbrev pub numbers_of_form : Form → List ℤ
-numbers_of_form x = fold-Form (List ℤ) (List ℤ) form_numbers numbers_step x
+numbers_of_form x = tree_numbers (tree_in x 0 0)
 
 -- each number of a literal in lines lies in the range
 abbrev pub HaveNumbersInRange : List Line → Type 0

@@ -1,5 +1,5 @@
 -- A text has tokens or a first refusal.
-use Rattle.std.proofs.Common.{◌≡◌, ◌∙◌, sym, ap, refl, subst, ℕ, zero, suc, ◌+◌, ◌-◌, ◌<◌, ◌≤◌, ◌&&◌, ◌||◌, ◌⊎◌, inl, inr, Bool, true, false, if◌then◌else◌, List, [], ◌∷◌, length, take, drop, Option, Some, None, ℤ, pos, neg_ℤ, nat_eq, nat_lt, codes, arith, length-drop, IsUtf8}
+use Rattle.std.proofs.Common.{◌≡◌, sym, ap, refl, subst, ℕ, zero, suc, ◌+◌, ◌-◌, ◌<◌, ◌≤◌, ◌&&◌, ◌||◌, ◌⊎◌, inl, inr, Bool, true, false, if◌then◌else◌, List, [], ◌∷◌, length, take, drop, Option, Some, None, ℤ, pos, neg_ℤ, nat_eq, nat_lt, codes, arith, length-drop, IsUtf8}
 use Rattle.std.specs.List.{starts_with}
 use Rattle.std.specs.Str.{IsValidUpTo, is_utf8}
 use Rattle.std.proofs.lemmas.Str.{IsUtf8-from_is_utf8, is_utf8-from_IsUtf8}
@@ -7,7 +7,6 @@ use Rattle.std.proofs.lemmas.Bool.Decides.{nat_tests}
 use Rattle.std.proofs.lemmas.List.{take_all}
 use Rattle.aplc_lex.specs.Signs.{is_digit, two, three, symbol_of}
 use Rattle.aplc_lex.specs.Heads.{name_bytes, name_chars, digits, text_bytes, comment_bytes, named, in_range_of, number_of, value_from, positive, negative, quoted, sign, begins_name, quad, of_two, of_three, of_wide, wide, line_end, head}
-use Rattle.aplc_lex.specs.Firsts.{IsFirstOf}
 use Rattle.aplc_lex.specs.Tokens.{IsCut, at_end, skips, finds, Meets, meets_here, meets_behind_skip, meets_behind_token, token, mark, refusal, AreTokens, IsFirst}
 use Rattle.aplc_lex.specs.declared.token.Head.{Head}
 use Rattle.aplc_lex.specs.declared.token.Head.TheVariants as h

@@ -1,6 +1,5 @@
 -- Tokens of a text, and its refusals, exclude each other.
-use Rattle.std.proofs.Common.{◌≡◌, ℕ, List, inl, inr, sym, arith}
-use Rattle.std.specs.Str.{IsValidUpTo}
+use Rattle.std.proofs.Common.{◌≡◌, ℕ, List, inl, inr}
 use Rattle.aplc_lex.specs.declared.token.Token.{Token}
 use Rattle.aplc_lex.specs.declared.token.Refusal.{Refusal}
 use Rattle.aplc_lex.specs.Tokens.{AreTokens, IsCause, IsFirst}

@@ -1,5 +1,5 @@
 -- The literals of a program have no more elements than its text has bytes.
-use Rattle.std.proofs.Common.{◌≡◌, ◌∙◌, ap, sym, refl, ℕ, zero, suc, ◌+◌, ◌-◌, ◌*◌, ◌<◌, ◌≤◌, ◌&&◌, List, [], ◌∷◌, length, take, drop, ℤ, Option, Some, None, Bool, true, false, if◌then◌else◌, arith, nat_eq}
+use Rattle.std.proofs.Common.{◌≡◌, ap, refl, ℕ, zero, suc, ◌+◌, ◌-◌, ◌*◌, ◌<◌, ◌≤◌, ◌&&◌, List, [], ◌∷◌, length, take, drop, ℤ, Bool, true, false, if◌then◌else◌, arith, nat_eq}
 use Rattle.std.specs.Prelude.{map, sum}
 use Rattle.std.specs.Str.{chars, continuation_len, lead_bits, chars_after}
 use Rattle.std.proofs.lemmas.List.Sums.{sum_by-cons}

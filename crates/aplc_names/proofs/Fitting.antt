@@ -1,5 +1,5 @@
 -- The tree of a statement of the grammar fits.
-use Rattle.std.proofs.Common.{◌≡◌, ◌∙◌, ap, sym, refl, ℕ, List, [], ◌∷◌, ℤ, Option, Some, None, Bool, true, false, ◌&&◌, ◌||◌}
+use Rattle.std.proofs.Common.{◌≡◌, ◌∙◌, ap, sym, refl, ℕ, List, [], ◌∷◌, Option, Some, None, Bool, true, false, ◌&&◌, ◌||◌}
 use Rattle.std.specs.Str.{all_scalars}
 use Rattle.aplc_scalar.specs.Scalar.{in_range}
 use Rattle.aplc_scalar.specs.declared.function.ScalarFn.{ScalarFn}
@@ -12,7 +12,6 @@ use Rattle.aplc_syntax.specs.declared.tree.Form.TheVariants as v
 use Rattle.aplc_syntax.specs.declared.tree.Statement.TheVariants as st
 use Rattle.aplc_syntax.specs.declared.word.Arity.TheVariants as arity
 use Rattle.aplc_syntax.specs.declared.word.Role.{Role}
-use Rattle.aplc_syntax.specs.declared.word.Role.TheVariants as role
 use Rattle.aplc_syntax.specs.declared.word.Stroke.{Stroke}
 use Rattle.aplc_syntax.specs.declared.word.Stroke.TheVariants as stroke
 use Rattle.aplc_syntax.specs.declared.word.Word.{Word}
@@ -20,7 +19,7 @@ use Rattle.aplc_syntax.specs.declared.word.WordKind.{WordKind}
 use Rattle.aplc_syntax.specs.declared.word.WordKind.TheVariants as w
 use Rattle.aplc_syntax.specs.Grammar.{F, arith_fn, compare_fn, X, no_axis, axis, M, arith1, not1, both1, turn1, reduce, call1, D, scalar2, both2, dyadic2, turn2, copies, outer, inner, call2, N, no_number, number, S, numbers, literal, variable, call0, text_input, nums_input, E, operand, before, between, assign, assign_at, show, O, simple, paren, index, L, last_gap, last_entry, gap, entry, Sentence, value, branch, perform0, perform1, perform2, spell, spell_F, spell_X, spell_M, spell_D, spell_N, spell_S, spell_E, spell_O, spell_L}
 use Rattle.aplc_syntax.specs.Words.{text_between}
-use Rattle.aplc_syntax.specs.Trees.{node, name_id, scalar_of, axis_of, reduction, copying, numbers_of, apply1, apply2, tree_S, tree_E, tree_O, trees_L, valued, statement_of}
+use Rattle.aplc_syntax.specs.Trees.{node, scalar_of, axis_of, reduction, copying, numbers_of, apply1, apply2, tree_S, tree_E, tree_O, trees_L, valued, statement_of}
 use Rattle.aplc_syntax.specs.PlainTrees.{Tree, tree_of, trees_in}
 use Rattle.aplc_names.specs.Fits.{is_arith, is_dyadic, is_monadic, axis_fits, all_in_range, takes_one, takes_two, is_variable, is_function, is_procedure, has_place, fits, all_fit, performs, is_quiet, statement_fits}
 use Rattle.aplc_syntax.proofs.PlainForms.{numbers_node, text_node, name_node, text_input_node, nums_input_node, mono_node, dyad_node, index_node, assign_node, assign_at_node, show_node, call_node}

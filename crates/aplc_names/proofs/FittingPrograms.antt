@@ -1,5 +1,5 @@
 -- Each statement of a program that the grammar gives fits the functions of the program.
-use Rattle.std.proofs.Common.{◌≡◌, ◌∙◌, ap, sym, refl, subst, ℕ, List, [], ◌∷◌, ◌++◌, map, drop, zero, suc, All, is_some, Option, Some, None, Bool, true, false, ◌&&◌, nat_eq, if◌then◌else◌, inl, inr, ◌⊎◌}
+use Rattle.std.proofs.Common.{◌≡◌, ◌∙◌, ap, sym, refl, subst, ℕ, List, [], ◌∷◌, ◌++◌, map, drop, zero, suc, All, is_some, Option, Some, None, Bool, true, false, ◌&&◌, nat_eq, if◌then◌else◌, inl, inr}
 use Rattle.std.proofs.Math.Path.{fun_ext}
 use Rattle.std.specs.Prelude.{filter_map, ◌+◌, ◌-◌}
 use Rattle.std.specs.Str.{all_scalars, chars}
@@ -10,7 +10,7 @@ use Rattle.aplc_lex.specs.Tokens.{AreTokens}
 use Rattle.aplc_syntax.proofs.Placed.{laid_words}
 use Rattle.aplc_names.proofs.Ranges.{IsRanged, IsRangedToken, ranged_tokens}
 use Rattle.std.specs.List.{AllZip, AllByRecursion, cons_option}
-use Rattle.std.proofs.lemmas.List.Elements.{All-cons, All-nil, All-head, All-tail, All-from_recursion}
+use Rattle.std.proofs.lemmas.List.Elements.{All-cons, All-nil, All-head, All-tail}
 use Rattle.aplc_lex.specs.declared.token.Token.{Token}
 use Rattle.aplc_lex.specs.declared.token.TokenKind.{TokenKind}
 use Rattle.aplc_lex.specs.declared.token.TokenKind.TheVariants as k
@@ -18,17 +18,14 @@ use Rattle.aplc_syntax.specs.declared.tree.Line.{Line}
 use Rattle.aplc_syntax.specs.declared.tree.Function.{Function}
 use Rattle.aplc_syntax.specs.declared.tree.Program.{Program}
 use Rattle.aplc_syntax.specs.declared.tree.Statement.{Statement}
-use Rattle.aplc_syntax.specs.declared.tree.Statement.TheVariants as st
 use Rattle.aplc_syntax.specs.declared.word.Role.{Role}
 use Rattle.aplc_syntax.specs.declared.word.Role.TheVariants as role
 use Rattle.aplc_syntax.specs.declared.word.Word.{Word}
 use Rattle.aplc_syntax.specs.declared.word.WordKind.{WordKind}
 use Rattle.aplc_syntax.specs.declared.word.WordKind.TheVariants as w
 use Rattle.aplc_syntax.specs.Words.{signs, sign_in, sign, kind_of, word_of, words, names_in, slice, undoubled, text_between, IsQuoted, Laid}
-use Rattle.aplc_syntax.specs.Grammar.{Sentence, spell}
-use Rattle.aplc_syntax.specs.Trees.{statement_of}
 use Rattle.aplc_syntax.specs.Layout.{Row, Rows, before_rows, cut, lines, begins_with_del, Block, part, parts, blocks, parts_of, Header, header_of, headers, known, arity_of, role_of, kind_in, word_in, label_of, sentence}
-use Rattle.aplc_syntax.specs.Programs.{IsStatement, IsDerived, IsLine, IsFunction, IsProgramOf}
+use Rattle.aplc_syntax.specs.Programs.{IsStatement, IsLine, IsFunction, IsProgramOf}
 use Rattle.aplc_names.specs.Fits.{is_arith, is_dyadic, axis_fits, takes_one, takes_two, statement_fits, role_of_function, roles, HasFittingStatements}
 use Rattle.aplc_names.proofs.Fitting.{Sane, AllSane, statement_is_fit}
 

@@ -1,5 +1,4 @@
 -- What every program of the grammar has.
-use Rattle.std.proofs.Common.{ℕ}
 use Rattle.aplc_syntax.specs.declared.tree.Program.{Program}
 use Rattle.aplc_names.specs.Programs.{IsParsed, IsGrammatical}
 use Rattle.aplc_names.proofs.Below.{names_below}

@@ -1,5 +1,5 @@
 -- The numbers of the literals of a program lie in the range of numbers.
-use Rattle.std.proofs.Common.{◌≡◌, ◌∙◌, ap, sym, refl, ℕ, ◌+◌, ◌≤◌, List, [], ◌∷◌, ◌++◌, ℤ, Option, Some, None, Bool, true, false, cond, arith}
+use Rattle.std.proofs.Common.{◌≡◌, ◌∙◌, ap, refl, ℕ, ◌+◌, List, [], ◌∷◌, ◌++◌, ℤ, Bool, true, false, cond, arith}
 use Rattle.std.specs.Prelude.{map, All}
 use Rattle.std.proofs.lemmas.List.Elements.{All-cons, All-nil, All-head, All-tail}
 use Rattle.aplc_scalar.specs.Scalar.{in_range}

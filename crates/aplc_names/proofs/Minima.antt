@@ -1,15 +1,13 @@
 -- The first refusal of several kinds, and of more and more items.
-use Rattle.std.proofs.Common.{◌≡◌, ◌∙◌, sym, ap, refl, subst, ℕ, ◌+◌, ◌<◌, ◌≤◌, List, length, Option, Some, None, Bool, true, false, not, nat_lt, nat_eq, ◌&&◌, ◌||◌, if◌then◌else◌, arith, get_or, inl, inr, ◌⊎◌}
+use Rattle.std.proofs.Common.{◌≡◌, ◌∙◌, sym, ap, refl, subst, ℕ, ◌+◌, ◌<◌, ◌≤◌, List, length, Option, Some, None, Bool, true, false, not, ◌&&◌, ◌||◌, arith, get_or, inl, inr, ◌⊎◌}
 use Rattle.std.specs.List.{slice_get, list_any}
-use Rattle.std.proofs.lemmas.Bool.Decides.{nat_tests}
 use Rattle.std.proofs.lemmas.Option.{slice_get-get_or, slice_get_within}
 use Rattle.aplc_lex.specs.Tokens.{refusal, IsBefore}
 use Rattle.aplc_lex.specs.declared.token.Refusal.{Refusal}
 use Rattle.aplc_syntax.specs.declared.tree.Named.{Named}
-use Rattle.aplc_lex.specs.Firsts.{IsFirst}
 use Rattle.aplc_names.specs.declared.outline.Mention.{Mention}
 use Rattle.aplc_names.specs.declared.outline.Outline.{Outline}
-use Rattle.aplc_lex.specs.Firsts.{IsFirstOf, comes_before, earlier}
+use Rattle.aplc_lex.specs.Firsts.{IsFirstOf, earlier}
 use Rattle.aplc_names.specs.Firsts.{Somewhere, Among, refused_if, is_before}
 use Rattle.aplc_lex.proofs.Order.{either_first, same_first}
 use Rattle.aplc_names.proofs.Firsts.{clash, at_first, found_by, named_is, is_named_of, some_before, before_some}

@@ -1,11 +1,10 @@
 -- What the tables find is the scope of a name; and what a scope stands for.
-use Rattle.std.proofs.Common.{◌≡◌, ◌∙◌, sym, ap, refl, subst, ℕ, zero, suc, ◌+◌, ◌<◌, ◌≤◌, List, [], ◌∷◌, ◌++◌, length, ℤ, pos, Option, Some, None, Bool, true, false, ◌||◌, cond, not, nat_lt, if◌then◌else◌, arith, get_or}
+use Rattle.std.proofs.Common.{◌≡◌, ◌∙◌, sym, ap, refl, ℕ, zero, suc, ◌+◌, ◌<◌, List, [], ◌∷◌, ◌++◌, length, ℤ, pos, Option, Some, None, Bool, true, false, ◌||◌, cond, nat_lt, if◌then◌else◌, arith, get_or}
 use Rattle.std.specs.Prelude.{map, position, option_map, is_some}
 use Rattle.std.specs.List.{slice_get, position_or_len, list_any}
 use Rattle.std.specs.Option.{option_map_or, option_to_list}
 use Rattle.std.proofs.lemmas.Bool.Decides.{nat_tests}
-use Rattle.std.proofs.lemmas.Option.{slice_get-get_or, slice_get_read}
-use Rattle.std.proofs.lemmas.List.{length-map}
+use Rattle.std.proofs.lemmas.Option.{slice_get_read}
 use Rattle.aplc_syntax.specs.declared.tree.Named.{Named}
 use Rattle.aplc_syntax.specs.declared.tree.Line.{Line}
 use Rattle.aplc_syntax.specs.declared.tree.Function.{Function}
@@ -15,7 +14,7 @@ use Rattle.aplc_names.specs.declared.scope.Scope.{Scope}
 use Rattle.aplc_names.specs.declared.scope.Scope.TheVariants as s
 use Rattle.aplc_names.specs.Outlines.{outline, outlines, labels_in, lines_from, with_line, header_names}
 use Rattle.aplc_names.specs.Tables.{is_named, first, stands_in}
-use Rattle.aplc_names.specs.Scopes.{function_names, own_name, function_number, is_label, label_line, local_or_global, label_or, function_or, scope_in, scope_of, IsScope, starts, start_from, start_of}
+use Rattle.aplc_names.specs.Scopes.{function_names, function_number, is_label, label_line, local_or_global, label_or, function_or, scope_in, scope_of, IsScope, starts, start_from, start_of}
 use Rattle.aplc_names.specs.Lookups.{line_or, scope_found, label_lines, all_label_lines}
 use Rattle.aplc_names.specs.Clashes.{is_start, no_main, main_place, mainless}
 use Rattle.aplc_names.specs.Programs.{IsClean}

@@ -1,9 +1,9 @@
 -- The names of a program are names.
-use Rattle.std.proofs.Common.{◌≡◌, ◌∙◌, ap, sym, refl, subst, arith, ℕ, ◌+◌, ◌-◌, ◌<◌, ◌≤◌, zero, suc, ℤ, pos, neg_ℤ, List, [], ◌∷◌, ◌++◌, length, take, drop, All, Option, Some, None, Bool, true, false, not, ◌&&◌, ◌||◌, nat_eq, nat_lt, nat_le, if◌then◌else◌}
+use Rattle.std.proofs.Common.{◌≡◌, ◌∙◌, ap, sym, refl, subst, arith, ℕ, ◌+◌, ◌-◌, zero, suc, ℤ, pos, neg_ℤ, List, [], ◌∷◌, ◌++◌, length, take, drop, All, Option, Some, None, Bool, true, false, not, ◌&&◌, ◌||◌, nat_eq, nat_lt, if◌then◌else◌}
 use Rattle.std.specs.Prelude.{fold, codes, bytes_eq}
 use Rattle.std.specs.List.{starts_with, list_any}
 use Rattle.std.proofs.lemmas.Bool.Decides.{nat_tests}
-use Rattle.std.proofs.lemmas.List.Elements.{All-cons, All-nil, All-head, All-tail, All-push}
+use Rattle.std.proofs.lemmas.List.Elements.{All-nil, All-head, All-tail, All-push}
 use Rattle.aplc_lex.specs.declared.token.Head.{Head}
 use Rattle.aplc_lex.specs.declared.token.Head.TheVariants as h
 use Rattle.aplc_lex.specs.declared.token.Token.{Token}
@@ -13,7 +13,7 @@ use Rattle.aplc_lex.specs.Signs.{is_digit, is_letter, is_delta, two, three, symb
 use Rattle.aplc_lex.specs.Heads.{name_bytes, name_chars, digits, value_from, text_bytes, comment_bytes, in_range_of, number_of, positive, negative, quoted, sign, begins_name, quad, of_two, of_three, of_wide, wide, line_end, named, head}
 use Rattle.aplc_lex.specs.Tokens.{AreTokens, StandsIn}
 use Rattle.aplc_syntax.specs.declared.tree.Program.{Program}
-use Rattle.aplc_syntax.specs.Words.{slice, spelling, with_name, with_token, names_in, is_name as is_name_kind}
+use Rattle.aplc_syntax.specs.Words.{spelling, with_name, with_token, is_name as is_name_kind}
 use Rattle.aplc_syntax.specs.Programs.{IsProgramOf}
 use Rattle.aplc_syntax.proofs.Spans.{tokens_stand}
 use Rattle.aplc_names.specs.Fits.{begins_with_digit, is_name, HasNames}

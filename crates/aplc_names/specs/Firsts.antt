@@ -1,9 +1,8 @@
 -- The refusals that items of lists give rise to.
-use Rattle.std.specs.Prelude.{◌≡◌, ◌<◌, ℕ, Bool, true, false, List, Option, Some, None, nat_eq, nat_lt, ◌&&◌, ◌||◌, if◌then◌else◌}
+use Rattle.std.specs.Prelude.{◌≡◌, ◌<◌, ℕ, Bool, true, false, List, Option, Some, None, nat_lt}
 use Rattle.std.specs.List.{slice_get}
 use Rattle.aplc_lex.specs.Tokens.{refusal}
 use Rattle.aplc_lex.specs.declared.token.Refusal.{Refusal}
-use Rattle.aplc_lex.specs.Firsts.{IsFirst}
 
 -- an item of the list, with its place there, gives rise to a refusal
 pub record Somewhere {X : Type 0} (P : ℕ → X → Refusal → Type 0) (xs : List X) (r : Refusal) : Type 0 where

@@ -1,5 +1,5 @@
 -- What a function says of names.
-use Rattle.std.specs.Prelude.{ℕ, ◌+◌, ◌&&◌, Bool, true, false, List, [], ◌∷◌, ◌++◌, map, flat_map, Option, Some, None, is_none, option_map, ℤ, pos}
+use Rattle.std.specs.Prelude.{ℕ, ◌+◌, ◌&&◌, Bool, true, false, List, [], ◌∷◌, ◌++◌, map, flat_map, Option, Some, None, is_none, ℤ, pos}
 use Rattle.std.specs.Option.{option_to_list}
 use Rattle.aplc_syntax.specs.declared.tree.NameId.{NameId}
 use Rattle.aplc_syntax.specs.declared.tree.Named.{Named}

@@ -1,13 +1,12 @@
 -- A text and its tokens have a program or a first refusal.
-use Rattle.std.proofs.Common.{◌≡◌, ◌∙◌, sym, ap, refl, subst, ℕ, zero, suc, ◌+◌, ◌<◌, ◌≤◌, ◌⊎◌, inl, inr, Bool, true, false, if◌then◌else◌, List, [], ◌∷◌, ◌++◌, length, All, ℤ, pos, Option, Some, None, nat_lt, arith}
+use Rattle.std.proofs.Common.{◌≡◌, ◌∙◌, sym, ap, refl, subst, ℕ, zero, suc, ◌<◌, ◌≤◌, ◌⊎◌, inl, inr, Bool, true, false, if◌then◌else◌, List, [], ◌∷◌, ◌++◌, length, All, ℤ, Option, Some, None, nat_lt, arith}
 use Rattle.std.specs.Prelude.{Contains}
 use Rattle.std.specs.List.{AllZip, AllByRecursion, slice_get}
-use Rattle.std.proofs.lemmas.List.Elements.{All-head, All-tail, All-from_recursion}
+use Rattle.std.proofs.lemmas.List.Elements.{All-head, All-tail}
 use Rattle.aplc_lex.specs.Tokens.{AreTokens}
 use Rattle.aplc_lex.specs.Firsts.{refusal, IsFirst, IsFirstOf, earlier}
 use Rattle.aplc_lex.specs.declared.token.Token.{Token}
 use Rattle.aplc_lex.specs.declared.token.Refusal.{Refusal}
-use Rattle.aplc_lex.specs.declared.token.Stop.{Stop}
 use Rattle.aplc_lex.specs.declared.token.Stop.TheVariants as stop
 use Rattle.aplc_lex.proofs.Order.{either_first, same_first, none_first, none_second, one_first}
 use Rattle.aplc_syntax.specs.declared.tree.Line.{Line}
@@ -18,11 +17,10 @@ use Rattle.aplc_syntax.specs.declared.tree.Statement.TheVariants as st
 use Rattle.aplc_syntax.specs.declared.tree.Var.{Var}
 use Rattle.aplc_syntax.specs.declared.step.Step.{Step}
 use Rattle.aplc_syntax.specs.declared.word.Word.{Word}
-use Rattle.aplc_syntax.specs.declared.word.WordKind.{WordKind}
 use Rattle.aplc_syntax.specs.Words.{words, names_in, Laid}
 use Rattle.aplc_syntax.specs.Trees.{statement_of}
 use Rattle.aplc_syntax.specs.Layout.{Row, begins_with_del, Block, part, parts, lines, Header, blocks, above, below, header_of, headers, parts_of, label_of, sentence, declaration}
-use Rattle.aplc_syntax.specs.Programs.{too_deep, IsStatement, IsLine, IsClosing, IsFunction, Declare, IsProgramOf}
+use Rattle.aplc_syntax.specs.Programs.{too_deep, IsStatement, IsLine, IsClosing, IsFunction, IsProgramOf}
 use Rattle.aplc_syntax.specs.Refusals.{StandsIn, RefusesIn, stray, BeginsAt, Stands, bad_header, high_count, bad_declaration}
 use Rattle.aplc_syntax.specs.Causes.{InSome, OfBlock, of_header, of_more, of_end, of_line, of_count, OfRows, OfBare, DeclareFrom, said_cause, origin_next, at_first}
 use Rattle.aplc_syntax.specs.Reading.{reads}

@@ -1,13 +1,12 @@
 -- The first refusal of the elements of a list.
-use Rattle.std.proofs.Common.{◌≡◌, ℕ, zero, suc, ◌+◌, ◌≤◌, ◌<◌, ◌⊎◌, inl, inr, Bool, true, false, ◌&&◌, ◌||◌, List, [], ◌∷◌, ◌++◌, Option, Some, None, refl, sym, ap, ap₂, ◌∙◌, subst, length, drop, get_or, nat_lt, nat_eq, arith, map, append_assoc}
-use Rattle.std.specs.Prelude.{All, Contains, if◌then◌else◌}
+use Rattle.std.proofs.Common.{◌≡◌, ℕ, zero, suc, ◌+◌, ◌≤◌, ◌<◌, inl, inr, List, [], ◌∷◌, ◌++◌, Option, Some, None, refl, sym, ap, ◌∙◌, subst, length, drop, get_or, arith, map, append_assoc}
+use Rattle.std.specs.Prelude.{All, Contains}
 use Rattle.std.specs.List.{AllZip}
-use Rattle.std.proofs.lemmas.Bool.Decides.{nat_tests}
 use Rattle.std.proofs.lemmas.List.{at_drop_more, at_drop_all, get_or-map, length-map}
 use Rattle.std.proofs.lemmas.List.Elements.{All-get_or}
 use Rattle.aplc_lex.specs.declared.token.Refusal.{Refusal}
 use Rattle.aplc_lex.proofs.Order.{either_first, earlier_through, none_first, none_second}
-use Rattle.aplc_lex.specs.Firsts.{IsBefore, IsFirst, comes_before, sooner, earlier, IsFirstOf}
+use Rattle.aplc_lex.specs.Firsts.{IsFirst, earlier, IsFirstOf}
 use Rattle.aplc_syntax.specs.Causes.{InSome, IsNoted, Covers}
 
 -- ---- Of one refusal

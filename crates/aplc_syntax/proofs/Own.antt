@@ -1,5 +1,5 @@
 -- The numbers of the nodes of a statement are the places of words, and no word serves for two of them.
-use Rattle.std.proofs.Common.{◌≡◌, ℕ, ◌+◌, ◌≤◌, List, [], ◌∷◌, ◌++◌, ℤ, Option, Some, None, map, refl, sym, ap, ◌∙◌, subst, inl, inr, arith, nat_eq, cond}
+use Rattle.std.proofs.Common.{◌≡◌, ℕ, ◌+◌, ◌≤◌, List, [], ◌∷◌, ◌++◌, Option, Some, None, refl, sym, ap, ◌∙◌, subst, inl, inr, arith, nat_eq, cond}
 use Rattle.aplc_scalar.specs.declared.function.ScalarFn.TheVariants as f
 use Rattle.aplc_syntax.specs.declared.tree.Primitive.{Primitive}
 use Rattle.aplc_syntax.specs.declared.tree.Primitive.TheVariants as pr

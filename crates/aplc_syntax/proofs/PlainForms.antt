@@ -8,7 +8,7 @@ use Rattle.aplc_syntax.specs.declared.tree.Form.{Form}
 use Rattle.aplc_syntax.specs.declared.tree.Form.TheVariants as v
 use Rattle.aplc_syntax.specs.declared.tree.Form.TheOpen.{Form-F}
 use Rattle.aplc_syntax.specs.declared.tree.Form.TheFolds.{fold-roll-Form, fold_out-Node}
-use Rattle.aplc_syntax.specs.PlainTrees.{Tree, Numbers, Text, Name, TextInput, NumsInput, Mono, Dyad, Index, Assign, AssignAt, Show, Call, Trees, no_more, left_out, and_tree, Argument, trees_of, form_tree, node_tree, tree_of, tree_in, trees_in, argument_in}
+use Rattle.aplc_syntax.specs.PlainTrees.{Tree, Numbers, Text, Name, TextInput, NumsInput, Mono, Dyad, Index, Assign, AssignAt, Show, Call, left_out, and_tree, trees_of, form_tree, node_tree, tree_of, tree_in, trees_in, argument_in}
 use Rattle.aplc_syntax.specs.Trees.{node, name_id}
 
 abbrev Plain : Type 0

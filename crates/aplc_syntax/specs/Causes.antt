@@ -1,5 +1,5 @@
 -- The causes of refusals by what they belong to.
-use Rattle.std.specs.Prelude.{◌≡◌, ℕ, ◌⊎◌, List, [], ◌∷◌, ◌++◌, filter_map, Contains, Option, Some, None, ℤ, Bool, ◌&&◌, ◌||◌, nat_lt, nat_eq, if◌then◌else◌}
+use Rattle.std.specs.Prelude.{◌≡◌, ℕ, ◌⊎◌, List, [], ◌∷◌, ◌++◌, filter_map, Contains, Option, Some, None, ℤ}
 use Rattle.std.specs.List.{slice_get, AllZip}
 use Rattle.aplc_lex.specs.Tokens.{refusal}
 use Rattle.aplc_lex.specs.declared.token.Refusal.{Refusal}

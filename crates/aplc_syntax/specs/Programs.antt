@@ -1,5 +1,5 @@
 -- The program of a text and its tokens.
-use Rattle.std.specs.Prelude.{◌≡◌, ◌≤◌, ◌+◌, ◌-◌, ◌⊎◌, ℕ, List, [], ◌∷◌, ◌++◌, length, filter_map, All, flat_map, Option, Some, None, ℤ, pos, nat_lt, if◌then◌else◌}
+use Rattle.std.specs.Prelude.{◌≡◌, ◌≤◌, ◌+◌, ◌-◌, ◌⊎◌, ℕ, List, [], ◌∷◌, length, filter_map, All, flat_map, Option, Some, None, ℤ, pos, nat_lt, if◌then◌else◌}
 use Rattle.std.specs.List.{AllZip}
 use Rattle.aplc_lex.specs.declared.token.Token.{Token}
 use Rattle.aplc_syntax.specs.declared.tree.Node.{Node}

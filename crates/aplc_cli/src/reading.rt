@@ -18,13 +18,7 @@ pub fn read_program(alloc: Global, file: &[u8]) -> Result<Bound, Stop>
     ensures clean { IfOk result (λ b. IsClean b) }
     ensures refused { IfErr result (RefusesSource file.now) }
 {
-    let found = match tokens(alloc, file) {
-        Ok(found) => found,
-        Err(stop) => return Err(stop),
-    };
-    let program = match parse(alloc, file, found.as_slice()) {
-        Ok(program) => program,
-        Err(stop) => return Err(stop),
-    };
+    let found = tokens(alloc, file)?;
+    let program = parse(alloc, file, found.as_slice())?;
     resolve(alloc, program)
 }

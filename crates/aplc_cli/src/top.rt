@@ -22,10 +22,7 @@ fn compile_file<H: Host>(alloc: Global, name: &str, host: &mut H) -> Result<Endi
         (outside (H.state host.old) i o)
         (outside (H.state host.new) i o) (result_map told result) }
 {
-    let made = match make(alloc, host, name) {
-        Ok(made) => made,
-        Err(stop) => return Err(stop),
-    };
+    let made = make(alloc, host, name)?;
     match send_text(host, made.text.as_slice(), false) {
         Ok(()) => Ok(Ending::Compiled),
         Err(stop) => Err(stop),
@@ -47,10 +44,7 @@ fn run_file<H: Host, S: Source, O: Sink>(
         (outside (H.state host.old) (S.state input.old) (O.state out.old))
         (outside (H.state host.new) (S.state input.new) (O.state out.new)) (result_map told result) }
 {
-    let made = match make(alloc, host, name) {
-        Ok(made) => made,
-        Err(stop) => return Err(stop),
-    };
+    let made = make(alloc, host, name)?;
     run_text(alloc, made, host, input, out, budget)
 }
 
@@ -69,10 +63,7 @@ fn execute_file<H: Host, S: Source, O: Sink>(
         (outside (H.state host.old) (S.state input.old) (O.state out.old))
         (outside (H.state host.new) (S.state input.new) (O.state out.new)) (result_map told result) }
 {
-    let program = match read_text(alloc, host, name) {
-        Ok(program) => program,
-        Err(stop) => return Err(stop),
-    };
+    let program = read_text(alloc, host, name)?;
     run_program(alloc, program, input, out, budget)
 }
 

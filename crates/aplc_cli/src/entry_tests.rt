@@ -19,6 +19,7 @@ fn args(alloc: Global, words: &[&str]) -> Result<Args, Fail> {
 }
 
 // The exit code, out and the line on err.
+#[derive(Clone, Copy)]
 struct Left<'a> {
     code: u8,
     out: &'a [u8],

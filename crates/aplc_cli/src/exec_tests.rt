@@ -120,6 +120,7 @@ fn executes_texts(rt: HostRuntime) -> Result<(), Fail> {
 }
 
 // What is there in the text before its functions, its lines, and the input; out and the line on err.
+#[derive(Clone, Copy)]
 struct Taking<'a> {
     globals: &'a [u8],
     lines: &'a [u8],

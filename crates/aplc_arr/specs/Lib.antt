@@ -1,0 +1,9 @@
+pub mod Arrays
+pub mod Delayed
+pub mod Each
+pub mod Structure
+pub mod Selection
+pub mod Indexing
+pub mod Operators
+pub mod Counts
+pub mod Display

@@ -57,6 +57,10 @@ all_given (Err e ∷ rest) = Err e
 abbrev pub cells_of : Delayed → Result (List ℤ) FaultKind
 cells_of d = all_given (first_n (λ p. d.element (index_at d.shape p)) (product d.shape))
 
+-- the array of which no element has a fault
+abbrev pub array_by : Kind → List ℕ → (List ℕ → ℤ) → Array
+array_by k ns f = record { kind = k; shape = ns; cells = first_n (λ p. f (index_at ns p)) (product ns) }
+
 -- ---- Both steps
 
 abbrev pub with_cells : Delayed → Result (List ℤ) FaultKind → Result Array FaultKind

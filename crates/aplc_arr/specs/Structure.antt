@@ -1,6 +1,6 @@
 -- Functions that rearrange elements: shape, ravel, the index generator, reversal, rotation, transposition, reshape and
 -- catenation. An axis is its number from 0, or none where the argument has not the axis that is meant.
-use Rattle.std.specs.Prelude.{ℕ, zero, suc, ◌+◌, ◌-◌, ◌%◌, max, min, List, [], ◌∷◌, ◌++◌, ℤ, pos, ◌+ℤ◌, ◌-ℤ◌, int_lt, int_le, unsigned_abs, length, map, slice_index, slice_index_or, slice_set, Option, Bool, true, false, nat_le, nat_lt, nat_eq, ◌&&◌, ◌||◌, if◌then◌else◌}
+use Rattle.std.specs.Prelude.{◌≡◌, ◌⊎◌, ℕ, zero, suc, ◌+◌, ◌-◌, ◌%◌, max, min, List, [], ◌∷◌, ◌++◌, ℤ, pos, ◌+ℤ◌, ◌-ℤ◌, int_lt, int_le, unsigned_abs, length, map, slice_index, slice_index_or, slice_set, Option, Bool, true, false, nat_le, nat_lt, nat_eq, ◌&&◌, ◌||◌, if◌then◌else◌}
 use mathlib.Core.List.{reverse}
 use Rattle.std.specs.Int.{int_rem_euclid}
 use Rattle.aplc_scalar.specs.declared.kind.Kind.TheVariants.{Num}
@@ -8,6 +8,10 @@ use Rattle.aplc_scalar.specs.declared.kind.FaultKind.TheVariants.{Domain, Length
 use Rattle.aplc_arr.specs.Arrays.{Array, rank, product, place, at, at_or_scalar, first_of, fill, shape_eq, kind_eq, is_numbers, count_limit, rank_limit, shape_fits}
 use Rattle.aplc_arr.specs.Delayed.{Prepared, moved, needs, along_axis, first_n}
 use Rattle.aplc_arr.specs.Each.{ranks_suit}
+
+-- the origins that there are: places and indices are counted from 0 or from 1
+abbrev pub IsOrigin : ℤ → Type 0
+IsOrigin o = (o ≡ pos 0) ⊎ (o ≡ pos 1)
 
 -- the one index of a vector's element
 abbrev pub only_index : List ℕ → ℕ

@@ -1,0 +1,11 @@
+pub mod Places
+pub mod Elements
+pub mod Basics
+pub mod Ranges
+pub mod Keeping
+pub mod KeepsEach
+pub mod KeepsStructure
+pub mod KeepsAxes
+pub mod KeepsSelection
+pub mod KeepsIndexing
+pub mod KeepsOperators

@@ -5,7 +5,7 @@ use Rattle.aplc_scalar.specs.declared.kind.Kind.{Kind}
 use Rattle.aplc_scalar.specs.declared.kind.FaultKind.{FaultKind}
 use Rattle.aplc_scalar.specs.Scalar.{Given}
 use Rattle.aplc_arr.specs.Arrays.{Array, product, IsIndexOf, place, index_at, fill, at}
-use Rattle.aplc_arr.specs.Delayed.{Delayed, moved, first_n, onto_cells, all_given, cells_of, with_cells, array_by, computed}
+use Rattle.aplc_arr.specs.Delayed.{Delayed, moved, first_n, onto_cells, all_given, cells_of, with_cells, HasFirstFault, array_by, computed}
 use Rattle.aplc_arr.proofs.Places.{place-below, index-of_place, length-first_n, at-first_n}
 
 -- ---- Lists of results
@@ -62,7 +62,7 @@ element-at d zs is e h =
     (cell-at d zs (place d.shape is) (fill d.kind) e (place-below d.shape is h))
 
 -- a fault is that of the first element, in row-major order, that has one
-pub first-fault : (d : Delayed) (e : FaultKind) → cells_of d ≡ Err e → (p : ℕ) × (p < product d.shape) × (d.element (index_at d.shape p) ≡ Err e) × ((q : ℕ) → q < p → IsOk (d.element (index_at d.shape q)))
+pub first-fault : (d : Delayed) (e : FaultKind) → cells_of d ≡ Err e → HasFirstFault d e
 first-fault d e is =
     let h = gives-cells d (Err e) is in
     let f : ℕ → Given = λ q. d.element (index_at d.shape q) in

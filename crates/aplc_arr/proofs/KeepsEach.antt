@@ -12,8 +12,8 @@ use Rattle.aplc_arr.proofs.Keeping.{range-cell, keeps-needs, cell-of, keeps-if, 
 use Rattle.aplc_scalar.specs.declared.kind.FaultKind.TheVariants as fault
 use Rattle.aplc_scalar.specs.declared.kind.Kind.TheVariants as k
 
-pub keeps-scalar_mono : (g : ScalarFn) (b : Array) → IsArray b → Keeps (each_monadic g b)
-keeps-scalar_mono g b h =
+pub keeps-each_monadic : (g : ScalarFn) (b : Array) → IsArray b → Keeps (each_monadic g b)
+keeps-each_monadic g b h =
     keeps-if (is_numbers b && is_monadic g) fault.Domain (delayed k.Num b.shape (λ is. monadic g (at b is))) (λ e.
     keeps-made k.Num b.shape (λ is. monadic g (at b is)) h.fits (ranked h) (λ is l. given-monadic g (at b is) (range-cell b _ (and-parts (is_numbers b) (is_monadic g) e).0 h)))
 
@@ -38,12 +38,12 @@ cell-extended v ns is h = cell-if v.kind (shape_eq v.shape ns) (at v is) (first_
 abbrev pub Fine : List ℕ → Type 0
 Fine ns = (shape_fits ns ≡ true) × (nat_le (length ns) 8 ≡ true)
 
-pub keeps-scalar_at : (g : ScalarFn) (v w : Array) (o : Option (List ℕ)) → kinds_suit g v.kind w.kind ≡ true → IsArray v → IsArray w → HasBoth Fine o → Keeps (each_pair g v w o)
-keeps-scalar_at g v w None e hv hw h = tt
-keeps-scalar_at g v w (Some ns) e hv hw h = keeps-made k.Num ns (λ is. applied g v.kind w.kind (extended v ns is) (extended w ns is)) h.0 h.1 (λ is l. given-applied g v.kind w.kind _ _ e (cell-extended v ns is hv) (cell-extended w ns is hw))
+pub keeps-each_pair : (g : ScalarFn) (v w : Array) (o : Option (List ℕ)) → kinds_suit g v.kind w.kind ≡ true → IsArray v → IsArray w → HasBoth Fine o → Keeps (each_pair g v w o)
+keeps-each_pair g v w None e hv hw h = tt
+keeps-each_pair g v w (Some ns) e hv hw h = keeps-made k.Num ns (λ is. applied g v.kind w.kind (extended v ns is) (extended w ns is)) h.0 h.1 (λ is l. given-applied g v.kind w.kind _ _ e (cell-extended v ns is hv) (cell-extended w ns is hw))
 
-pub keeps-scalar : (g : ScalarFn) (v w : Array) → IsArray v → IsArray w → Keeps (each_dyadic g v w)
-keeps-scalar g v w hv hw =
+pub keeps-each_dyadic : (g : ScalarFn) (v w : Array) → IsArray v → IsArray w → Keeps (each_dyadic g v w)
+keeps-each_dyadic g v w hv hw =
     let form = each_pair g v w (common_shape v.shape w.shape) in
     keeps-if (kinds_suit g v.kind w.kind) fault.Domain (needs (ranks_suit (rank v) (rank w)) fault.Rank form) (λ e.
-    keeps-needs (ranks_suit (rank v) (rank w)) fault.Rank form (keeps-scalar_at g v w (common_shape v.shape w.shape) e hv hw (joint-has Fine v.shape w.shape (hv.fits, (ranked hv)) (hw.fits, (ranked hw)))))
+    keeps-needs (ranks_suit (rank v) (rank w)) fault.Rank form (keeps-each_pair g v w (common_shape v.shape w.shape) e hv hw (joint-has Fine v.shape w.shape (hv.fits, (ranked hv)) (hw.fits, (ranked hw)))))

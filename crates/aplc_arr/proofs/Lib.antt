@@ -1,7 +1,9 @@
 pub mod Places
 pub mod Elements
+pub mod Shapes
 pub mod Basics
 pub mod Ranges
+pub mod Counting
 pub mod Keeping
 pub mod KeepsEach
 pub mod KeepsStructure

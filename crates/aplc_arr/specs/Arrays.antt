@@ -1,8 +1,10 @@
 -- Arrays, the row-major order of their elements, and which arrays the language has.
-use Rattle.std.specs.Prelude.{◌≡◌, ℕ, ◌+◌, ◌*◌, ◌/◌, ◌%◌, ◌<◌, ◌≤◌, List, [], ◌∷◌, ℤ, pos, negsuc, length, slice_index_or, All, Bool, true, false, nat_le, nat_eq, ◌&&◌, if◌then◌else◌}
+use Rattle.std.specs.Prelude.{◌≡◌, ℕ, ◌+◌, ◌*◌, ◌/◌, ◌%◌, ◌<◌, ◌≤◌, List, [], ◌∷◌, ℤ, pos, negsuc, length, slice_index_or, All, Bool, true, false, nat_le, nat_eq, ◌&&◌, if◌then◌else◌, Result, Ok, Err}
 use lib.Utf8.{scalar}
 use Rattle.aplc_scalar.specs.declared.kind.Kind.{Kind}
 use Rattle.aplc_scalar.specs.declared.kind.Kind.TheVariants.{Num, Char}
+use Rattle.aplc_scalar.specs.declared.kind.FaultKind.{FaultKind}
+use Rattle.aplc_scalar.specs.declared.kind.FaultKind.TheVariants.{Length, Limit}
 use Rattle.aplc_scalar.specs.Scalar.{in_range}
 
 -- what the elements are, a length for each axis, and the elements in row-major order; characters stand by their codes
@@ -114,3 +116,9 @@ pub record IsArray (a : Array) : Type 0 where
   pub fits : shape_fits a.shape ≡ true
   pub ranked : rank a ≤ rank_limit
   pub cells : All (λ z. is_cell a.kind z ≡ true) a.cells
+
+-- ---- Making one
+
+-- LIMIT where the shape is too great, else LENGTH where it has not room for just these elements
+abbrev pub array_or_fault : Kind → List ℕ → List ℤ → Result Array FaultKind
+array_or_fault k ns zs = if shape_fits ns then (if nat_eq (length zs) (product ns) then Ok record { kind = k; shape = ns; cells = zs } else Err Length) else Err Limit

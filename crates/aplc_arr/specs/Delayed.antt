@@ -1,6 +1,6 @@
 -- Delayed arrays: the shape is there, and each element is a formula that is still to be computed.
 -- A primitive gives one in its first step, or a fault of its arguments; the second step computes the elements.
-use Rattle.std.specs.Prelude.{ℕ, zero, suc, List, [], ◌∷◌, ◌++◌, ℤ, Option, Some, None, Result, Ok, Err, Bool, true, false}
+use Rattle.std.specs.Prelude.{◌≡◌, ◌<◌, ℕ, zero, suc, List, [], ◌∷◌, ◌++◌, ℤ, Option, Some, None, Result, Ok, Err, IfOk, Bool, true, false}
 use Rattle.aplc_scalar.specs.declared.kind.Kind.{Kind}
 use Rattle.aplc_scalar.specs.declared.kind.FaultKind.{FaultKind}
 use Rattle.aplc_scalar.specs.declared.kind.FaultKind.TheVariants.{Rank}
@@ -36,6 +36,10 @@ abbrev pub along_axis : Option ℕ → (ℕ → Prepared) → Prepared
 along_axis None next = Err Rank
 along_axis (Some i) next = next i
 
+-- it is a fault, or an array of this kind and shape
+abbrev pub Gives : Kind → List ℕ → Prepared → Type 0
+Gives k ns p = IfOk p (λ d. (d.kind ≡ k) × (d.shape ≡ ns))
+
 -- ---- The second step: the elements
 
 -- f 0, .., f (n - 1)
@@ -56,6 +60,10 @@ all_given (Err e ∷ rest) = Err e
 -- the elements in row-major order, or the first fault among them
 abbrev pub cells_of : Delayed → Result (List ℤ) FaultKind
 cells_of d = all_given (first_n (λ p. d.element (index_at d.shape p)) (product d.shape))
+
+-- this is the fault of the first element, in row-major order, that has one
+abbrev pub HasFirstFault : Delayed → FaultKind → Type 0
+HasFirstFault d e = (p : ℕ) × (p < product d.shape) × (d.element (index_at d.shape p) ≡ Err e) × ((q : ℕ) → q < p → (z : ℤ) × (d.element (index_at d.shape q) ≡ Ok z))
 
 -- the array of which no element has a fault
 abbrev pub array_by : Kind → List ℕ → (List ℕ → ℤ) → Array

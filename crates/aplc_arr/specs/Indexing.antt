@@ -1,5 +1,5 @@
 -- Indexing and indexed assignment. The places of an axis are an array of numbers, or none where the whole axis is meant.
-use Rattle.std.specs.Prelude.{ℕ, List, [], ◌∷◌, ◌++◌, ℤ, int_le, length, take, drop, slice_set, Option, Some, None, Result, Ok, Bool, true, nat_le, nat_lt, nat_eq, ◌&&◌, ◌||◌}
+use Rattle.std.specs.Prelude.{◌≡◌, ℕ, List, [], ◌∷◌, ◌++◌, ℤ, int_le, length, take, drop, slice_set, Option, Some, None, Result, Ok, Bool, true, nat_le, nat_lt, nat_eq, ◌&&◌, ◌||◌}
 use Rattle.aplc_scalar.specs.declared.kind.FaultKind.{FaultKind}
 use Rattle.aplc_scalar.specs.declared.kind.FaultKind.TheVariants.{Domain, Index, Length, Limit, Rank}
 use Rattle.aplc_arr.specs.Arrays.{Array, rank, product, at, place, index_at, shape_eq, kind_eq, is_numbers, rank_limit, shape_fits}
@@ -50,6 +50,10 @@ indexed o b xs =
     (moved b.kind (joined_shape b.shape xs) (λ is. at b (picked o xs is))))))
 
 -- ---- Indexed assignment
+
+-- of the same kind and shape
+abbrev pub IsShapedAs : Array → Array → Type 0
+IsShapedAs a b = (b.kind ≡ a.kind) × (b.shape ≡ a.shape)
 
 -- cells set one after the other, so that the last one stays where a place is named twice
 abbrev pub set_all : List (ℕ × ℤ) → List ℤ → List ℤ

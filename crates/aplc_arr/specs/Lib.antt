@@ -5,5 +5,6 @@ pub mod Structure
 pub mod Selection
 pub mod Indexing
 pub mod Operators
+pub mod Making
 pub mod Counts
 pub mod Display

@@ -100,16 +100,19 @@ abbrev pub least_length : ℕ → List ℕ → List ℕ → ℕ
 least_length j (x ∷ xs) (n ∷ ns) = if nat_eq x j then (if stands_in j xs then min n (least_length j xs ns) else n) else least_length j xs ns
 least_length j _ _ = 0
 
+-- the lengths where axis i becomes the i-th of axes
+abbrev pub lengths_moved : List ℕ → List ℕ → List ℕ
+lengths_moved axes ns = first_n (λ j. least_length j axes ns) (axes_in axes)
+
 -- `A⍉B`: axis i of B becomes axis A[i]; where several become one axis, that is their diagonal, as long as the shortest.
 -- DOMAIN where A holds characters; RANK where A is above rank 1, has not as many numbers as B has axes, or names other
 -- axes than all from the first to some last one.
 abbrev pub transposed_by : ℤ → Array → Array → Prepared
 transposed_by o a b =
     let axes = map (from_origin o) a.cells in
-    let m = axes_in axes in
     needs (is_numbers a) Domain
-    (needs (nat_le (rank a) 1 && nat_eq (length a.cells) (rank b) && none_below o a.cells && all_below_stand m axes) Rank
-    (moved b.kind (first_n (λ j. least_length j axes b.shape) m) (λ is. at b (map (slice_index is) axes))))
+    (needs (nat_le (rank a) 1 && nat_eq (length a.cells) (rank b) && none_below o a.cells && all_below_stand (axes_in axes) axes) Rank
+    (moved b.kind (lengths_moved axes b.shape) (λ is. at b (map (slice_index is) axes))))
 
 -- ---- Reshape
 

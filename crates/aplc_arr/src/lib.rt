@@ -2,7 +2,10 @@
 //! It must not know of programs, of names, or of the C text.
 #![tactic(auto)]
 
-/// Something to check.
-pub fn one() -> u8 {
-    1
-}
+mod array;
+mod laws;
+
+pub use array::Arr;
+pub use laws::{
+    arrays_stay_dyadic, arrays_stay_indexed, arrays_stay_monadic, elements_by_formula, row_major_order,
+};

@@ -11,3 +11,9 @@ pub mod KeepsAxes
 pub mod KeepsSelection
 pub mod KeepsIndexing
 pub mod KeepsOperators
+mod Samples
+mod ExamplesEach
+mod ExamplesStructure
+mod ExamplesSelection
+mod ExamplesOperators
+mod ExamplesDisplay

@@ -1,11 +1,12 @@
 -- Counting the elements that lengths make room for, one length after the other.
 use Rattle.std.proofs.Common.{◌≡◌, ℕ, zero, suc, ◌+◌, ◌*◌, ◌<◌, ◌≤◌, List, [], ◌∷◌, length, Option, Some, None, refl, sym, ap, ◌∙◌, subst, arith, get_or, drop, ⊎_elim, ◌⊎◌, inl, inr}
-use Rattle.std.specs.Prelude.{ℤ, pos, negsuc, map, min, nat_le, slice_index, unsigned_abs, Bool, true, false, ◌&&◌, if◌then◌else◌, int_le}
+use Rattle.std.specs.Prelude.{ℤ, pos, negsuc, ◌≤ℤ◌, All, map, min, nat_le, slice_index, unsigned_abs, Bool, true, false, ◌&&◌, if◌then◌else◌, int_le}
 use Rattle.std.proofs.lemmas.Bool.{cases_lt}
 use Rattle.std.proofs.lemmas.Bool.Decides.{nat_tests}
+use Rattle.std.proofs.lemmas.Int.{ints}
 use Rattle.std.proofs.lemmas.List.{drop_more}
 use Rattle.aplc_arr.specs.Arrays.{product, lengths_fit, count_limit}
-use Rattle.aplc_arr.specs.Structure.{none_negative, magnitudes}
+use Rattle.aplc_arr.specs.Structure.{magnitudes}
 use Rattle.aplc_arr.specs.Making.{count_from}
 use Rattle.aplc_arr.proofs.Basics.{no, and-parts}
 
@@ -87,11 +88,11 @@ past_count zs i c n d total below size many is =
     past : (n : ℕ) → count_limit < n → nat_le n count_limit ≡ false
     past n l = grind (arith, nat_tests)
 
-pub length-at : (zs : List ℤ) (i : ℕ) (d : ℤ) → none_negative zs ≡ true → i < length zs → get_or zs i d ≡ pos (slice_index (magnitudes zs) i)
-length-at [] i d e lt = absurd (omega (arith, lt))
-length-at (z ∷ zs) zero d e lt = itself z (and-parts (int_le (pos 0) z) (none_negative zs) e).0
+pub length-at : (zs : List ℤ) (i : ℕ) (d : ℤ) → All (λ n. pos 0 ≤ℤ n) zs → i < length zs → get_or zs i d ≡ pos (slice_index (magnitudes zs) i)
+length-at [] i d h lt = absurd (omega (arith, lt))
+length-at (z ∷ zs) zero d h lt = itself z (h 0 z (omega arith))
   where
-    itself : (z : ℤ) → int_le (pos 0) z ≡ true → z ≡ pos (unsigned_abs z)
-    itself (pos n) e = refl
-    itself (negsuc n) e = absurd (no e)
-length-at (z ∷ zs) (suc i) d e lt = length-at zs i d (and-parts (int_le (pos 0) z) (none_negative zs) e).1 (omega (arith, lt))
+    itself : (z : ℤ) → pos 0 ≤ℤ z → z ≡ pos (unsigned_abs z)
+    itself (pos n) l = refl
+    itself (negsuc n) l = absurd (omega (arith, ints, l))
+length-at (z ∷ zs) (suc i) d h lt = length-at zs i d (λ j e l. h (suc j) e (omega (arith, l))) (omega (arith, lt))

@@ -73,7 +73,3 @@ lengths = refl
 too_great : computed (each_dyadic f.Add (nums [] (pos 9223372036854775807 ∷ [])) (nums (2 ∷ []) (map pos (0 ∷ 1 ∷ [])))) ≡ Err fault.Limit
 unfolding in_range
 too_great = refl
-
--- `9223372036854775807 2∧1 1`, whose first fault counts
-first_fault : computed (each_dyadic f.And (nums (2 ∷ []) (map pos (9223372036854775807 ∷ 2 ∷ []))) (nums (2 ∷ []) (map pos (1 ∷ 1 ∷ [])))) ≡ Err fault.Domain
-first_fault = refl

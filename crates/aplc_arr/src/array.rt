@@ -1,9 +1,9 @@
 //! Arrays: a kind, a shape, and the elements in row-major order.
 //! It must not know what a primitive does.
 
-ghost use Rattle.std.specs.Prelude.{◌≡◌, ℕ, ℤ, ◌<◌, ◌≤◌, pos, All, IsTrue, IfOk, length, slice_index, slice_index_or};
+ghost use Rattle.std.specs.Prelude.{◌≡◌, ℕ, ℤ, ◌<◌, ◌≤◌, ◌≤ℤ◌, pos, All, IsTrue, IfOk, length, slice_index, slice_index_or};
 ghost use Rattle.aplc_arr.specs.Arrays.{Array, IsArray, is_cell, rank, product, count_limit, rank_limit, array_or_fault};
-ghost use Rattle.aplc_arr.specs.Structure.{none_negative, magnitudes};
+ghost use Rattle.aplc_arr.specs.Structure.{magnitudes};
 ghost use Rattle.aplc_arr.specs.Making.{count_from};
 
 use aplc_scalar::{FaultKind, Kind};
@@ -22,8 +22,7 @@ pub struct Arr {
 }
 
 impl Model for Arr {
-    ghost use Rattle.aplc_arr.specs.Arrays.{Array, IsArray};
-    ghost use Rattle.aplc_arr.specs.Structure.{none_negative, magnitudes};
+    ghost use Rattle.aplc_arr.specs.Arrays.{Array};
     ghost use Rattle.aplc_arr.specs.Making.{IsHeld, array_of};
 
     ghost Value = { Array };
@@ -58,7 +57,7 @@ impl Arr {
     /// of elements passes 2147483647; else `Length` exactly where the elements are not as many as the lengths say.
     pub fn make(kind: Kind, shape: Vec<i64>, ravel: Vec<i64>) -> Result<Arr, FaultKind>
         requires axes { length shape.items ≤ rank_limit }
-        requires lengths { IsTrue (none_negative shape.items) }
+        requires lengths { All (λ n. pos 0 ≤ℤ n) shape.items }
         requires cells { All (λ z. IsTrue (is_cell kind z)) ravel.items }
         ensures made { result ≡ array_or_fault kind (magnitudes shape.items) ravel.items }
         ensures array { IfOk result IsArray }
@@ -108,5 +107,38 @@ impl Arr {
         ensures { (z : ℤ) → result ≡ slice_index_or self.now.cells place z }
     {
         self.ravel[place]
+    }
+}
+
+#[cfg(test)]
+mod tests {
+    use super::*;
+    use aplc_scalar::in_range;
+    use std::alloc::{AllocError, Global};
+    use std::test::Fail;
+
+    fn numbers(
+        rt: &impl Abort,
+        alloc: Global,
+        shape: &[i64],
+        ravel: &[i64],
+    ) -> Result<Result<Arr, FaultKind>, AllocError> {
+        let lengths = Vec::from_slice(alloc, shape)?;
+        let cells = Vec::from_slice(alloc, ravel)?;
+        assert!(rt; shape.len() <= 8);
+        assert!(rt; shape.iter().all(|n| *n >= 0));
+        assert!(rt; ravel.iter().all(|z| in_range(*z)));
+        Ok(Arr::make(Kind::Num, lengths, cells))
+    }
+
+    #[test]
+    fn arrays(rt: HostRuntime) -> Result<(), Fail> {
+        let alloc = rt.alloc();
+        let Ok(table) = numbers(&rt, alloc, &[2, 3], &[1, -20, 3, 4, 5, 6])? else {
+            return Err(FaultKind::Domain)?;
+        };
+        assert_eq!(rt; table.kind(), Kind::Num);
+        assert_eq!(rt; table.rank(), 2);
+        Ok(())
     }
 }

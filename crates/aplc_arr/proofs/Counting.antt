@@ -1,6 +1,6 @@
 -- Counting the elements that lengths make room for, one length after the other.
-use Rattle.std.proofs.Common.{◌≡◌, ℕ, zero, suc, ◌+◌, ◌*◌, ◌<◌, ◌≤◌, List, [], ◌∷◌, length, Option, Some, None, refl, sym, ap, ◌∙◌, subst, arith, get_or, drop, ⊎_elim, ◌⊎◌, inl, inr}
-use Rattle.std.specs.Prelude.{ℤ, pos, negsuc, ◌≤ℤ◌, All, map, min, nat_le, slice_index, unsigned_abs, Bool, true, false, ◌&&◌, if◌then◌else◌, int_le}
+use Rattle.std.proofs.Common.{◌≡◌, ℕ, zero, suc, ◌+◌, ◌*◌, ◌<◌, ◌≤◌, List, [], ◌∷◌, length, Option, Some, None, refl, sym, ap, ◌∙◌, subst, arith, get_or, drop, ⊎_elim}
+use Rattle.std.specs.Prelude.{ℤ, pos, negsuc, ◌≤ℤ◌, All, min, nat_le, slice_index, unsigned_abs, Bool, true, false, ◌&&◌, if◌then◌else◌}
 use Rattle.std.proofs.lemmas.Bool.{cases_lt}
 use Rattle.std.proofs.lemmas.Bool.Decides.{nat_tests}
 use Rattle.std.proofs.lemmas.Int.{ints}
@@ -8,7 +8,7 @@ use Rattle.std.proofs.lemmas.List.{drop_more}
 use Rattle.aplc_arr.specs.Arrays.{product, lengths_fit, count_limit}
 use Rattle.aplc_arr.specs.Structure.{magnitudes}
 use Rattle.aplc_arr.specs.Making.{count_from}
-use Rattle.aplc_arr.proofs.Basics.{no, and-parts}
+use Rattle.aplc_arr.proofs.Basics.{no}
 
 abbrev within : Bool → ℕ → Option ℕ
 within t m = if t && nat_le m count_limit then Some m else None

@@ -4,7 +4,7 @@ use Rattle.std.specs.Prelude.{ℤ, slice_index_or, Result, Ok, Err}
 use Rattle.aplc_scalar.specs.declared.kind.Kind.{Kind}
 use Rattle.aplc_scalar.specs.declared.kind.FaultKind.{FaultKind}
 use Rattle.aplc_scalar.specs.Scalar.{Given}
-use Rattle.aplc_arr.specs.Arrays.{Array, product, IsIndexOf, place, index_at, fill, at}
+use Rattle.aplc_arr.specs.Arrays.{product, IsIndexOf, place, index_at, fill, at}
 use Rattle.aplc_arr.specs.Delayed.{Delayed, moved, first_n, onto_cells, all_given, cells_of, with_cells, HasFirstFault, array_by, computed}
 use Rattle.aplc_arr.proofs.Places.{place-below, index-of_place, length-first_n, at-first_n}
 

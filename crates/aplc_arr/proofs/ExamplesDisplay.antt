@@ -1,5 +1,5 @@
 -- What arrays are displayed as, computed. `194 175` is the high minus in UTF-8.
-use Rattle.std.specs.Prelude.{◌≡◌, ℕ, ◌++◌, List, [], ◌∷◌, ℤ, pos, negsuc, codes, map, refl}
+use Rattle.std.specs.Prelude.{◌≡◌, ◌++◌, [], ◌∷◌, pos, negsuc, codes, map, refl}
 use Rattle.std.specs.Fmt.{digits}
 use lib.Utf8.{encode}
 use Rattle.aplc_arr.specs.Display.{shown}

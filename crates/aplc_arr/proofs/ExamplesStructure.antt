@@ -1,5 +1,5 @@
 -- Functions that rearrange elements, computed.
-use Rattle.std.specs.Prelude.{◌≡◌, ℕ, List, [], ◌∷◌, ℤ, pos, negsuc, codes, map, Option, Some, None, Ok, Err, refl}
+use Rattle.std.specs.Prelude.{◌≡◌, [], ◌∷◌, pos, negsuc, codes, map, Some, None, Ok, Err, refl}
 use Rattle.aplc_scalar.specs.declared.kind.FaultKind.TheVariants as fault
 use Rattle.aplc_arr.specs.Delayed.{computed}
 use Rattle.aplc_arr.proofs.Samples.{nums, chars, text}

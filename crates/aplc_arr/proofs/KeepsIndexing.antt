@@ -8,7 +8,7 @@ use Rattle.aplc_arr.specs.Delayed.{moved, needs}
 use Rattle.aplc_arr.specs.Each.{extended}
 use Rattle.aplc_arr.specs.Indexing.{joined_shape, all_numbers, places_within, picked, indexed, set_all, settings, changed}
 use Rattle.aplc_arr.proofs.Basics.{every-set_all, every-first, length-set_all, and-parts}
-use Rattle.aplc_arr.proofs.Keeping.{keeps-needs, cell-of, same-kind, keeps-if, Keeps, ranked, keeps-whole}
+use Rattle.aplc_arr.proofs.Keeping.{keeps-needs, cell-of, same-kind, keeps-if, Keeps, keeps-whole}
 use Rattle.aplc_arr.proofs.KeepsEach.{cell-extended}
 use Rattle.aplc_scalar.specs.declared.kind.FaultKind.TheVariants as fault
 

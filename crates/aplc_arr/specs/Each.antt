@@ -1,7 +1,7 @@
 -- The scalar functions on arrays, element by element.
 use Rattle.std.specs.Prelude.{ℕ, List, [], ◌∷◌, ℤ, pos, Option, Some, None, Ok, Err, Bool, true, false, nat_eq, ◌&&◌, ◌||◌, if◌then◌else◌}
 use Rattle.aplc_scalar.specs.declared.kind.Kind.{Kind}
-use Rattle.aplc_scalar.specs.declared.kind.Kind.TheVariants.{Num, Char}
+use Rattle.aplc_scalar.specs.declared.kind.Kind.TheVariants.{Num}
 use Rattle.aplc_scalar.specs.declared.kind.FaultKind.TheVariants.{Domain, Length, Rank}
 use Rattle.aplc_scalar.specs.declared.function.ScalarFn.{ScalarFn}
 use Rattle.aplc_scalar.specs.declared.function.ScalarFn.TheVariants as f

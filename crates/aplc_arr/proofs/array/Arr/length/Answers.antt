@@ -1,4 +1,4 @@
-use Rattle.std.proofs.Common.{rules, w64, FitsSigned, to_z-of_z, ◌∙◌, sym, ap, subst, ◌≡◌, ◌<◌, length}
+use Rattle.std.proofs.Common.{rules, w64, FitsSigned, to_z-of_z, ◌∙◌, sym, ap, subst, ◌<◌}
 use Rattle.std.specs.Prelude.{pos, slice_index, unsigned_abs}
 use Rattle.std.proofs.lemmas.List.{length-map}
 use Rattle.aplc_arr.specs.Arrays.{Array, rank}

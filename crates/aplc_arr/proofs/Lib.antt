@@ -11,9 +11,11 @@ pub mod KeepsAxes
 pub mod KeepsSelection
 pub mod KeepsIndexing
 pub mod KeepsOperators
+pub mod Texts
 mod Samples
 mod ExamplesEach
 mod ExamplesStructure
 mod ExamplesSelection
 mod ExamplesOperators
 mod ExamplesDisplay
+mod ExamplesCounts

@@ -1,11 +1,13 @@
 //! Laws of the definitions alone.
 //! They must not say what a call does.
 
-ghost use Rattle.std.specs.Prelude.{◌≡◌, ◌+◌, ◌<◌, ℕ, ℤ, List, [], ◌∷◌, ◌++◌, Option, Some, Ok, Err, IfOk, length, map, drop, remove, sum, slice_set, unsigned_abs};
+ghost use Rattle.std.specs.Prelude.{true, ◌≡◌, ◌+◌, ◌<◌, ℕ, ℤ, List, [], ◌∷◌, ◌++◌, Option, Some, Ok, Err, IfOk, length, map, drop, remove, sum, slice_set, unsigned_abs};
 ghost use mathlib.Core.List.{reverse};
 ghost use Rattle.aplc_scalar.specs.declared.kind.Kind.{Kind};
 ghost use Rattle.aplc_scalar.specs.declared.kind.Kind.TheVariants.{Num};
 ghost use Rattle.aplc_scalar.specs.declared.kind.FaultKind.{FaultKind};
+ghost use Rattle.aplc_scalar.specs.Scalar.{in_range};
+ghost use Rattle.aplc_scalar.specs.Number.{number_text};
 ghost use Rattle.aplc_scalar.specs.declared.function.ScalarFn.{ScalarFn};
 ghost use Rattle.aplc_arr.specs.Arrays.{Array, IsArray, IsIndexOf, rank, product, place, index_at, at, first_of, vector_shape};
 ghost use Rattle.aplc_arr.specs.Delayed.{Delayed, Gives, moved, array_by, cells_of, HasFirstFault, computed};
@@ -13,6 +15,7 @@ ghost use Rattle.aplc_arr.specs.Each.{common_shape, each_monadic, each_dyadic};
 ghost use Rattle.aplc_arr.specs.Structure.{IsOrigin, magnitudes, from_origin, lengths_moved, front_of, layers, common_front, shape_of, ravelled, iota, reversed, rotated, transposed, transposed_by, reshaped, catenated};
 ghost use Rattle.aplc_arr.specs.Selection.{lengths_left, axis_length, counts_for, taken, dropped, replicated, expanded, index_of, members};
 ghost use Rattle.aplc_arr.specs.Indexing.{IsShapedAs, joined_shape, indexed, changed};
+ghost use Rattle.aplc_arr.specs.Display.{shown};
 ghost use Rattle.aplc_arr.specs.Operators.{reduced, scanned, outer_product, inner_product};
 
 /// Places and multi-indices are inverse, and a place lies below the number of elements.
@@ -100,4 +103,9 @@ pub fn arrays_stay_dyadic()
 pub fn arrays_stay_indexed()
     ensures index { (o : ℤ) (b : Array) (xs : List (Option Array)) → IsArray b → IfOk (computed (indexed o b xs)) IsArray }
     ensures change { (o : ℤ) (a v : Array) (xs : List (Option Array)) → IsArray a → IsArray v → IfOk (changed o a xs v) IsArray }
+{}
+
+/// A number by itself is displayed as its text and a line feed.
+pub fn number_shown()
+    ensures { (z : ℤ) → in_range z ≡ true → shown record { kind = Num; shape = []; cells = z ∷ [] } ≡ number_text z ++ 10 ∷ [] }
 {}

@@ -8,5 +8,5 @@ mod laws;
 pub use array::Arr;
 pub use laws::{
     arrays_stay_dyadic, arrays_stay_indexed, arrays_stay_monadic, elements_by_formula,
-    row_major_order, shapes_dyadic, shapes_indexed, shapes_monadic,
+    number_shown, row_major_order, shapes_dyadic, shapes_indexed, shapes_monadic,
 };

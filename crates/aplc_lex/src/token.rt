@@ -1,5 +1,5 @@
 //! Tokens, spans and refusals.
-//! They must not hold the text: a token's text is the slice of its span.
+//! They must not hold the text: the bytes of a token are read from the text by its span.
 
 use thiserror::Error;
 
@@ -10,7 +10,7 @@ pub struct Span {
     pub to: u64,
 }
 
-/// What a token is. The text of a name or of a quoted text is the slice of its span, quotes included.
+/// What a token is. What a name or a quoted text says stands in the text at its span, quotes too.
 #[derive(Clone, Copy, Debug, PartialEq, Eq)]
 pub enum TokenKind {
     /// A name of at most 63 characters.

@@ -1,4 +1,4 @@
--- The scalar functions over whole numbers: each application gives a number or one fault.
+-- What the scalar functions make of whole numbers: a number, or a fault.
 use Rattle.std.specs.Prelude.{◌^◌, ℤ, pos, ◌+ℤ◌, ◌-ℤ◌, ◌*ℤ◌, Bool, true, false, nat_lt, Option, Some, None, Result, Ok, Err, if◌then◌else◌, IsTrue}
 use Rattle.std.specs.Int.{int_rem_euclid}
 use Rattle.std.specs.Int.RustNames.{int_lt, int_le, unsigned_abs}
@@ -49,7 +49,7 @@ abbrev pub logical_right : (Bool → Bool) → Option Bool → Given
 logical_right g None = Err fault.Domain
 logical_right g (Some b) = tested (g b)
 
--- a function of truth values: DOMAIN where an argument is neither 0 nor 1
+-- a function of truth values, 0 and 1: any other argument is DOMAIN
 abbrev pub logical : (Bool → Bool → Bool) → Option Bool → Option Bool → Given
 logical g None b = Err fault.Domain
 logical g (Some a) b = logical_right (g a) b

@@ -83,7 +83,7 @@ fn boolean(a: i64) -> Option<bool>
     }
 }
 
-/// `b` less a whole multiple of `a`: 0, or of `a`'s sign and of less magnitude. It is `b` where `a` is 0.
+/// `b` less a whole multiple of `a`: 0, or of `a`'s sign and of less magnitude. For an `a` of 0 it is `b`.
 #[tactic(auto, unfolding(crate::specs::Scalar::in_range))]
 fn residue(a: i64, b: i64) -> i64
     requires a { IsInRange a }

@@ -179,7 +179,7 @@ word_in hs x = record { kind = kind_in hs x.kind; place = x.place }
 
 -- ---- Lines of functions
 
--- a name with a colon behind it, at the start of a line
+-- the first two words of a line, a name and a colon
 abbrev pub label : List (WordKind × ℕ) → Option Named
 label ((w.Name r n, p) ∷ (w.Colon, q) ∷ xs) = Some (named n p)
 label _ = None
@@ -217,7 +217,7 @@ abbrev pub var_if : Bool → Named → Option Kind → ℤ → Option Declaratio
 var_if true n (Some k) (pos v) = if nat_le v 8 then Some (var (record { name = n; kind = k; rank = v })) else None
 var_if _ n _ _ = None
 
--- `ORIGIN 0`, `ORIGIN 1`, `VAR name NUM RANK k` or `VAR name CHAR RANK k` with k from 0 to 8, or nothing
+-- what a line above the functions declares: an origin of 0 or 1, a name with its kind and a rank to 8, or nothing
 abbrev pub declaration_in : List (List ℕ) → List (WordKind × ℕ) → Option Declaration
 declaration_in ns [] = Some nothing
 declaration_in ns ((w.Name ro o, po) ∷ (w.Number v, pv) ∷ []) = origin_if (is_called ns o (codes "ORIGIN")) v

@@ -30,8 +30,8 @@ nesting w.Close p depth later = later (depth - 1)
 nesting w.CloseBracket p depth later = later (depth - 1)
 nesting _ p depth later = later depth
 
--- the first opening parenthesis or bracket behind 32 that are open, where so many are open before these words; a closing
--- one takes back one that is open, if any
+-- where the 33rd parenthesis or bracket is opened, if depth of them are open in front of these words; one that closes
+-- makes one less, and where none is open nothing
 abbrev pub too_deep : List Word → ℕ → Option ℕ
 too_deep [] depth = None
 too_deep (x ∷ xs) depth = nesting x.kind x.place depth (too_deep xs)
@@ -88,7 +88,7 @@ pub record Declare (ns : List (List ℕ)) (rs : List Row) (v : ℤ) (vars : List
   pub origin : IsOrigin (filter_map origin_of said) v
   pub named : vars ≡ filter_map var_of said
 
--- the program that the grammar gives for the tokens of a text, within its limits
+-- p is what the tokens of a text spell, and keeps the limits
 pub record IsProgramOf (text : List ℕ) (ts : List Token) (p : Program) : Type 0 where
   pub names : p.names ≡ names_in text ts
   pub declared : Declare (names_in text ts) (above (parts_of text ts)) p.origin p.vars

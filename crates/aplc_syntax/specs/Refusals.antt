@@ -50,7 +50,7 @@ takes_nothing (role.Function arity.Niladic) = true
 takes_nothing (role.Procedure arity.Niladic) = true
 takes_nothing _ = false
 
--- a number, a text, `(`, `⍞`, `⎕NUMS`, or a name that heads no function with arguments
+-- words with which an argument can begin; of names those of functions with arguments cannot
 abbrev pub begins_argument : WordKind → Bool
 begins_argument (w.Number v) = true
 begins_argument (w.Text to) = true
@@ -60,7 +60,7 @@ begins_argument w.NumsInput = true
 begins_argument (w.Name r n) = takes_nothing r
 begins_argument _ = false
 
--- a name that heads no function, before what only a function would stand before
+-- the name of a variable in front of something that could be a function's argument
 abbrev pub is_stray : WordKind → WordKind → Bool
 is_stray (w.Name role.Variable n) k = begins_argument k
 is_stray _ k = false

@@ -43,7 +43,7 @@ abbrev pub copying : Stroke → Axis → Primitive
 copying stroke.Slash a = pr.Replicate a
 copying stroke.Backslash a = pr.Expand a
 
--- a function at its argument; its place is that of its first word
+-- a function and its argument, placed at the function's first word
 abbrev pub apply1 : M → Node → Node
 apply1 (arith1 p g) b = node p (v.Mono (pr.Scalar g) b)
 apply1 (not1 p) b = node p (v.Mono (pr.Scalar f.Not) b)

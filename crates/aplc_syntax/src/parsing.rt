@@ -58,10 +58,10 @@ fn program(alloc: Global, text: &[u8], tokens: &[Token]) -> Result<Program, Stop
     }
 }
 
-/// The program of the tokens of a text of at most 262,144 bytes, or its first refusal: 6 where a header is not one, 7
-/// where a statement is not one, 8 where more than 32 parentheses and brackets are open, 9 where a statement has over
-/// 256 nodes, 10 where a function has line 1,000 or there is a 1,000th function, 11 where a line outside functions is no
-/// declaration, 13 where a name that is no function stands before an argument. The smallest place counts, then the
+/// The program that tokens spell, their text having at most 262,144 bytes, or its first refusal: 6 where a header is not
+/// one, 7 where a statement is not one, 8 where more than 32 parentheses and brackets are open, 9 where a statement has
+/// over 256 nodes, 10 where there are more than 999 functions or lines of one, 11 where a line of no function declares
+/// nothing, 13 where a name that is no function stands before an argument. The smallest place counts, then the
 /// smallest number. `Memory` says nothing of the text.
 pub fn parse(alloc: Global, text: &[u8], tokens: &[Token]) -> Result<Program, Stop>
     requires length { length text.now ≤ 262144 }

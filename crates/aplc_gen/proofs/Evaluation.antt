@@ -18,7 +18,7 @@ use Rattle.aplc_cprof.specs.Machine as machine
 use Rattle.aplc_cprof.proofs.Values.{value_Lit, value_Var, value_Bin, ranged_in, ranged_out}
 use Rattle.aplc_cprof.proofs.Paths.{Does, does_weaken, does_none, does_then, does_Check, does_Check_limit}
 use Rattle.aplc_names.specs.Sums.{Sum, number, apply}
-use Rattle.aplc_names.specs.Eager as evaluation
+use Rattle.aplc_names.specs.SumEager as evaluation
 use Rattle.aplc_gen.specs.Emitted.{literal, checked_of, operand_expr, apply_code, operand_code, is_checked, is_supported}
 use Rattle.aplc_gen.proofs.Bools.{and_left, and_right}
 

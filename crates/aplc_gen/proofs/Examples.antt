@@ -18,9 +18,9 @@ use Rattle.aplc_syntax.specs.declared.tree.Primitive.{Primitive}
 use Rattle.aplc_syntax.specs.declared.tree.Primitive.TheVariants as pr
 use Rattle.aplc_syntax.specs.Trees.{node}
 use Rattle.aplc_names.specs.Sums.{Sum, number, apply, nothing, quiet, display, dyad, sum_of}
-use Rattle.aplc_names.specs.Eager.{Place}
-use Rattle.aplc_names.specs.Runs.{eager, main}
-use Rattle.aplc_names.specs.Runs as run
+use Rattle.aplc_names.specs.States.{Place}
+use Rattle.aplc_names.specs.SumRuns.{eager, main}
+use Rattle.aplc_names.specs.SumRuns as run
 use Rattle.aplc_gen.specs.Emitted.{lines_code, widest}
 use Rattle.aplc_gen.specs.Shown.{place_shown, source_behaviour}
 use Rattle.aplc_names.proofs.SumForms.{sum_node, sum_Numbers, sum_Dyad}

@@ -14,7 +14,7 @@ use Rattle.aplc_cprof.specs.declared.syntax.CStmt.TheVariants as stmt
 use Rattle.aplc_cprof.specs.WellFormed.{Scope, is_plain, is_name, is_count, is_expr, is_stmt, are_stmts, is_formed, IsWellFormed}
 use Rattle.aplc_cprof.proofs.Forms.{is_Lit, is_Var, is_Bin, is_Check, is_PutNum, is_PutChar, is_At}
 use Rattle.aplc_names.specs.Sums.{Sum, number, apply, Task, nothing, quiet, display}
-use Rattle.aplc_names.specs.Runs.{main}
+use Rattle.aplc_names.specs.SumRuns.{main}
 use Rattle.aplc_gen.specs.Emitted.{literal, checked_of, operand_expr, apply_code, operand_code, width, display_code, line_code, task_width, lines_code, widest, program_code, is_checked, is_supported, is_task_supported, are_supported}
 use Rattle.aplc_gen.proofs.Bools.{and_left, and_right, both_true}
 

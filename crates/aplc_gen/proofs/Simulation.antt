@@ -19,10 +19,11 @@ use Rattle.aplc_cprof.proofs.Runs.{padded_none, step_end}
 use Rattle.aplc_cprof.proofs.Paths.{numbered-append, Path, run-path, Led, Does, does_none, does_then, does_PutNum, does_PutChar, does_At}
 use Rattle.aplc_cprof.proofs.Same.{Follows, machine_of, alike}
 use Rattle.aplc_names.specs.Sums.{Sum, Task, nothing, quiet, display}
-use Rattle.aplc_names.specs.Eager.{Place, Outcome, displayed, statement, started, marks_of, lines_from}
-use Rattle.aplc_names.specs.Eager as evaluation
-use Rattle.aplc_names.specs.Runs.{Run, run_of, main, eager}
-use Rattle.aplc_names.specs.Runs as runs
+use Rattle.aplc_names.specs.States.{Place}
+use Rattle.aplc_names.specs.SumEager.{Outcome, displayed, statement, started, marks_of, lines_from}
+use Rattle.aplc_names.specs.SumEager as evaluation
+use Rattle.aplc_names.specs.SumRuns.{Run, run_of, main, eager}
+use Rattle.aplc_names.specs.SumRuns as runs
 use Rattle.aplc_gen.specs.Shown.{place_shown, run_shown, source_behaviour}
 use Rattle.aplc_gen.specs.Emitted.{operand_expr, operand_code, display_code, line_code, lines_code, program_code, is_supported, is_task_supported, are_supported}
 use Rattle.aplc_gen.proofs.Bools.{and_left, and_right}

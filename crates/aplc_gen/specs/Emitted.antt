@@ -14,7 +14,7 @@ use Rattle.aplc_cprof.specs.declared.syntax.CProgram.{CProgram}
 use Rattle.aplc_cprof.specs.declared.syntax.CStmt.{CStmt}
 use Rattle.aplc_cprof.specs.declared.syntax.CStmt.TheVariants as stmt
 use Rattle.aplc_names.specs.Sums.{Sum, number, apply, Task, nothing, quiet, display}
-use Rattle.aplc_names.specs.Runs.{main}
+use Rattle.aplc_names.specs.SumRuns.{main}
 use Rattle.aplc_gen.specs.declared.operand.Operand.{Operand}
 use Rattle.aplc_gen.specs.declared.operand.Operand.TheVariants as operand
 

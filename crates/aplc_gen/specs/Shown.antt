@@ -4,8 +4,9 @@ use Rattle.aplc_cprof.specs.Behaviour.{Standing}
 use Rattle.aplc_cprof.specs.Behaviour as standing
 use Rattle.aplc_cprof.specs.Machine as machine
 use Rattle.aplc_names.specs.Sums.{Task}
-use Rattle.aplc_names.specs.Eager.{Place, Places}
-use Rattle.aplc_names.specs.Runs.{Run, Ended, Faulted, Going, eager}
+use Rattle.aplc_names.specs.States.{Place}
+use Rattle.aplc_names.specs.SumEager.{Places}
+use Rattle.aplc_names.specs.SumRuns.{Run, Ended, Faulted, Going, eager}
 
 -- a place of the source as one of the machine
 abbrev pub place_shown : Place → machine.Place

@@ -6,7 +6,7 @@ ghost use Rattle.std.specs.Prelude.{ℕ, List as ListOf};
 ghost use Rattle.aplc_cprof.specs.WellFormed.{IsWellFormed};
 ghost use Rattle.aplc_cprof.specs.Behaviour.{behaviour, Alike};
 ghost use Rattle.aplc_names.specs.Sums.{Task, task_of, tasks_of, main_tasks};
-ghost use Rattle.aplc_names.specs.Runs.{main};
+ghost use Rattle.aplc_names.specs.SumRuns.{main};
 ghost use Rattle.aplc_names.specs.Literals.{statement_numbers, HasNumbersInRange};
 ghost use Rattle.aplc_names.specs.Programs.{HasShortFunctions};
 ghost use Rattle.aplc_gen.specs.Shown.{source_behaviour};

@@ -7,7 +7,12 @@ pub mod Firsts
 pub mod Clashes
 pub mod Graphs
 pub mod Programs
-pub mod Sums
+pub mod Primitives
+pub mod PlainPrograms
+pub mod States
 pub mod Eager
 pub mod Runs
+pub mod Sums
+pub mod SumEager
+pub mod SumRuns
 pub mod Literals

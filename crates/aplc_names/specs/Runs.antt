@@ -1,28 +1,139 @@
--- The run of MAIN with so many lines started.
-use Rattle.std.specs.Prelude.{ℕ, List, [], codes}
+-- Runs of whole programs, with so many lines started.
+use Rattle.std.specs.Prelude.{ℕ, zero, suc, ◌+◌, List, [], ◌∷◌, ◌++◌, length, sum, map, Option, Some, None, slice_get, false, nat_lt, if◌then◌else◌}
 use Rattle.aplc_scalar.specs.declared.kind.FaultKind.{FaultKind}
-use Rattle.aplc_names.specs.Sums.{Task}
-use Rattle.aplc_names.specs.Eager.{Place, Places, State, Outcome, lines_from}
-use Rattle.aplc_names.specs.Eager as outcome
+use Rattle.aplc_scalar.specs.declared.kind.FaultKind.TheVariants as fault
+use Rattle.aplc_arr.specs.Arrays.{Array}
+use Rattle.aplc_names.specs.PlainPrograms.{Action, nothing, Routine, PlainProgram, main_routine, names_of_header, header_count}
+use Rattle.aplc_names.specs.States.{Values, Place, World, State, Marking, Outcome, Gives, and_then, final, on_world, set_name, no_values, worked, weight_of, grown, shrunk}
+use Rattle.aplc_names.specs.States as outcome
+use Rattle.aplc_names.specs.Eager.{Caller, Context, statement}
 
--- What a run with so many lines started comes to.
+-- the run of a function from a line on, until it is left; it gives the value of the result's name, if that has one
+abbrev pub Runner : Type 0
+Runner = Routine → ℕ → State → Outcome (Option Array)
+
+-- ---- Calls
+
+-- how many frames may stand
+abbrev pub depth_limit : ℕ
+depth_limit = 4096
+
+abbrev pub set_some : Option ℕ → Option Array → Values → Values
+set_some None v names = names
+set_some (Some n) v names = set_name n v names
+
+-- the local names of a function that is entered: its arguments alone have values
+abbrev pub frame : Routine → Option Array → Option Array → Values
+frame f x y = set_some f.left x (set_some f.right y no_values)
+
+-- a new frame stands in front, and its parameters count; the names of the header count as work
+abbrev pub entered : Routine → Option Array → Option Array → State → State
+entered f x y s = record {
+  world = worked (header_count f) (record s.world { locals = frame f x y; places = record { function = f.title; line = 0 } ∷ s.world.places });
+  account = record (grown (weight_of x + weight_of y) s.account) { held = 0 };
+}
+
+-- what the values of these names count
+abbrev pub frame_weight : List ℕ → Values → ℕ
+frame_weight ns names = sum (map (λ n. weight_of (names n)) ns)
+
+-- the caller's frame and statement again, where s is the state before the call and t the one where function f was left
+abbrev pub back : Routine → State → State → State
+back f s t = record {
+  world = record t.world { locals = s.world.locals; places = s.world.places };
+  account = record (shrunk (frame_weight (names_of_header f) t.world.locals) t.account) { held = s.account.held };
+}
+
+-- LIMIT where as many frames stand as may
+abbrev pub call_routine : Runner → Option Routine → Option Array → Option Array → State → Outcome (Option Array)
+call_routine r None x y s = outcome.Faulted fault.Value s
+call_routine r (Some f) x y s =
+    if nat_lt (length s.world.places) depth_limit
+    then and_then (r f 1 (entered f x y s)) (λ v t. Gives v (back f s t))
+    else outcome.Faulted fault.Limit s
+
+abbrev pub caller : PlainProgram → Runner → Caller
+caller p r j x y s = call_routine r (slice_get p.routines j) x y s
+
+-- ---- Lines
+
+-- the line with this number
+abbrev pub line_at : List Action → ℕ → Option Action
+line_at xs zero = None
+line_at xs (suc l) = slice_get xs l
+
+abbrev pub at_line : ℕ → List Place → List Place
+at_line l [] = []
+at_line l (q ∷ qs) = record q { line = l } ∷ qs
+
+-- an empty statement leaves no mark
+abbrev pub marks_of : Action → List Place → List Place
+marks_of nothing qs = []
+marks_of x [] = []
+marks_of x (q ∷ qs) = q ∷ []
+
+-- line l is started: the frame stands there, and a statement leaves a mark; k more may start
+abbrev pub started : ℕ → Action → ℕ → World → World
+started l x k w = record w { left = k; places = at_line l w.places; marks = w.marks ++ marks_of x (at_line l w.places) }
+
+abbrev pub after : ℕ → Option ℕ → ℕ
+after l None = l + 1
+after l (Some t) = t
+
+abbrev pub result_of : Option ℕ → Values → Option Array
+result_of None names = None
+result_of (Some n) names = names n
+
+-- the line of number l, where so many may still start, and then the next ones; where there is no such line the function
+-- is left
+abbrev pub from_line : Context → Routine → (ℕ → State → Outcome (Option Array)) → ℕ → Option Action → ℕ → State → Outcome (Option Array)
+from_line c f next l None k s = Gives (result_of f.result s.world.locals) s
+from_line c f next l (Some x) zero s = outcome.Going s
+from_line c f next l (Some x) (suc k) s = and_then (statement c x (on_world (started l x k) s)) (λ to t. next (after l to) t)
+
+abbrev pub context : PlainProgram → Marking → Runner → Routine → Context
+context p m r f = record { origin = p.origin; scope = f.scope; marking = m; call = caller p r }
+
+-- function f from line l on, where calls and lines together nest at most k deep
+abbrev pub run : PlainProgram → Marking → ℕ → Runner
+run p m zero f l s = outcome.Going s
+run p m (suc k) f l s = from_line (context p m (run p m k) f) f (run p m k f) l (line_at f.lines l) s.world.left s
+
+-- ---- Whole runs
+
+-- What a run comes to: its output and its marks, and for a fault its kind and its places, innermost first.
 pub data Run : Type 0 where
   Ended : List ℕ → List Place → Run
-  Faulted : List ℕ → List Place → FaultKind → Places → Run
+  Faulted : List ℕ → List Place → FaultKind → List Place → Run
   Going : List ℕ → List Place → Run
 
-abbrev pub run_of : Outcome (Unit {0}) → Run
-run_of (outcome.Gives done s) = Ended s.output s.marks
-run_of (outcome.Faulted k s) = Faulted s.output s.marks k s.places
-run_of (outcome.Going s) = Going s.output s.marks
+abbrev pub run_of : {A : Type 0} → Outcome A → Run
+run_of (Gives v s) = Ended s.world.output s.world.marks
+run_of (outcome.Faulted k s) = Faulted s.world.output s.world.marks k s.world.places
+run_of (outcome.Going s) = Going s.world.output s.world.marks
 
-abbrev pub main : List ℕ
-main = codes "MAIN"
+-- before the first frame, where n lines may start
+abbrev pub unstarted : List ℕ → ℕ → State
+unstarted input n = record {
+  world = record { globals = no_values; locals = no_values; places = []; left = n; input = input; output = []; marks = []; work = 0; given = [] };
+  account = record { now = 0; peak = 0; held = 0; late = false };
+}
 
--- at first one frame stands, that of MAIN, before its first line
-abbrev pub initial : List ℕ → ℕ → State
-initial input n = record { places = record { here = record { function = main; line = 0 }; behind = [] }; input = input; output = []; marks = []; left = n }
+-- no program without a start is evaluated
+abbrev pub run_main : PlainProgram → Marking → List ℕ → ℕ → Option Routine → Outcome (Option Array)
+run_main p m input n None = outcome.Going (unstarted input n)
+run_main p m input n (Some f) = run p m (n + 1) f 1 (entered f None None (unstarted input n))
 
--- MAIN on an input, with at most n lines started, those without a statement included
-unfoldable pub eager : List Task → List ℕ → ℕ → Run
-eager lines input n = run_of (lines_from 1 lines (initial input n))
+-- MAIN on an input with at most n lines started, those with an empty statement included
+abbrev pub evaluated : PlainProgram → Marking → List ℕ → ℕ → Outcome (Option Array)
+evaluated p m input n = run_main p m input n (main_routine p)
+
+unfoldable pub eager : PlainProgram → Marking → List ℕ → ℕ → Run
+eager p m input n = run_of (evaluated p m input n)
+
+-- the greatest account met
+unfoldable pub peak : PlainProgram → Marking → List ℕ → ℕ → ℕ
+peak p m input n = (final (evaluated p m input n)).account.peak
+
+unfoldable pub work : PlainProgram → Marking → List ℕ → ℕ → ℕ
+work p m input n = (final (evaluated p m input n)).world.work

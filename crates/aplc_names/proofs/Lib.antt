@@ -15,6 +15,12 @@ pub mod Elements
 pub mod Headers
 pub mod Below
 pub mod SumForms
+pub mod Carried
+pub mod Growing
+pub mod Alike
+pub mod Spending
+pub mod RunExamples
+mod AccountExamples
 pub mod Scoped
 mod Fitting
 mod FittingPrograms

@@ -15,4 +15,5 @@ pub mod Runs
 pub mod Sums
 pub mod SumEager
 pub mod SumRuns
+pub mod RunLaws
 pub mod Literals

@@ -255,7 +255,7 @@ abbrev pub IsMissingFile : Option Command → HostState → Type 0
 IsMissingFile None h = ⊥
 IsMissingFile (Some c) h = IsMissing h.files c.name
 
--- why a read may fail: the fetch met a fault or found no file, or the input failed in a run at a statement that reads
+-- why a read may fail: FILE could not be fetched, or is not there; or the run had to read, and the input failed
 abbrev pub HasReadCause : Option Command → Outside → Outside → Type 0
 HasReadCause c old new =
     Rose old.host.fetch_faults new.host.fetch_faults

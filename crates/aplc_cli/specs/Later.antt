@@ -53,7 +53,7 @@ form_later _ p = p ∷ []
 abbrev pub node_later : Node-F (ℕ → List ℕ) (List ℕ) → List ℕ
 node_later n = n.form n.place
 
--- the places of the nodes in a node, and of itself, that are neither a literal of one number nor a dyadic `+`, `-` or `×`
+-- the places of all in a node, itself included, that no sum has: a sum is made of single numbers and `+`, `-`, `×` between two arguments
 abbrev pub later_in : Node → List ℕ
 later_in n = fold-Node (ℕ → List ℕ) (List ℕ) form_later node_later n
 
@@ -63,7 +63,7 @@ later_in_form x p = fold-Form (ℕ → List ℕ) (List ℕ) form_later node_late
 
 -- ---- Programs
 
--- a branch has the place of its `→`
+-- of a branch its arrow counts
 abbrev pub statement_later : Statement → List ℕ
 statement_later st.Empty = []
 statement_later (st.Quiet n) = later_in n
@@ -82,7 +82,7 @@ function_later g = lines_later g.lines
 abbrev pub functions_later : List Function → List ℕ
 functions_later fs = flat_map function_later fs
 
--- the places of all that is not built in a program: functions, declarations, labels and local names are no such parts
+-- the places of all that is not built in a program; only statements have such places, headers and declarations have none
 abbrev pub later : Program → List ℕ
 later p = functions_later p.functions
 

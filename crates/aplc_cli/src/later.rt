@@ -123,7 +123,7 @@ fn in_lines(lines: &[Line]) -> Option<u64>
     found
 }
 
-/// The first place in a program of what is neither a literal of one number nor a dyadic `+`, `-` or `×`.
+/// The first place in a program of what no sum has: a branch, or a node that is neither a single number nor `+`, `-` or `×` of two.
 pub fn first_later(program: &Program) -> Option<u64>
     ensures first { result ≡ least (later program.now) }
     ensures built { result ≡ None → has_tasks (main_function program.now) ≡ true }

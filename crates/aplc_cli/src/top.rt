@@ -118,8 +118,8 @@ fn carry_out<H: Host, S: Source, O: Sink, E: Sink>(
 /// - `FILE`: the file is fetched and compiled, and its C text is handed to the host. Nothing is read from `input`
 ///   and nothing is written to `out`.
 /// - `--run FILE`, `--run --steps M FILE`: the same, and then the text is carried out over `input` and `out`, for
-///   at most M steps; M is 1 to 16 digits with a value from 1 to 1,000,000,000,000,000, and 1,000,000,000 without
-///   `--steps`.
+///   at most M steps: 1 to 1,000,000,000,000,000 in at most 16 digits. Where `--steps` is not there it is
+///   1,000,000,000.
 /// - `--exec FILE`, `--exec --steps M FILE`: the file is a C text and is carried out in the same way. Nothing is
 ///   handed to the host. This alone may answer `Stuck`.
 ///

@@ -41,7 +41,7 @@ fn is_name(word: &str) -> bool
     }
 }
 
-/// A count of steps: 1 to 16 digits, with a value from 1 to `MOST_STEPS`.
+/// A count of steps, from 1 to `MOST_STEPS`, in no more than 16 digits.
 fn steps(word: &str) -> Option<u64>
     ensures value { result ≡ steps word.now }
     ensures most { IfSome result (λ m. m ≤ most_steps) }

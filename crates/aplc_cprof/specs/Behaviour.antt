@@ -20,7 +20,7 @@ shown (machine.Ended s) = Ended s.output s.marks
 shown (machine.Faulted k s) = Faulted s.output s.marks k s.places
 shown (machine.Stuck c n s) = Stuck s.output s.marks c n
 
--- what stands after at most m steps of a program on an input
+-- how far a program has come on an input when it has taken m steps, or has stopped before
 unfoldable pub behaviour : CProgram → List ℕ → ℕ → Standing
 behaviour p input m = shown (run (code_of p) m (initial (code_of p) input))
 
@@ -71,5 +71,5 @@ pub record Alike (source c : ℕ → Standing) : Type 0 where
   -- the program is never stuck, and shows nothing else
   pub never_stuck : (m : ℕ) → IsStuck (c m) → ⊥
   pub no_more : (m : ℕ) → (n : ℕ) × Agrees (c m) (source n)
-  -- no output and no mark is withheld for ever
+  -- whatever the source prints and marks the program prints and marks in the end
   pub none_withheld : (n : ℕ) → (m : ℕ) × IsPartOf (source n) (c m)

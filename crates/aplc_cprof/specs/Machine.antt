@@ -144,7 +144,8 @@ abbrev pub first_body : List Todo → Todo
 first_body [] = []
 first_body (t ∷ ts) = t
 
--- at the start the frame of the first function stands, globals are 0, buffers are null, and there is one empty place
+-- a run begins with one frame, that of the first function; each global is 0, each buffer variable null, and the one
+-- place is empty
 abbrev pub initial : Code → List ℕ → State
 initial c input = record {
   ints = no_ints;
@@ -350,7 +351,7 @@ abbrev pub buf_or_null : Option Buf → State → Option ℕ
 buf_or_null None s = None
 buf_or_null (Some q) s = named_buf q s
 
--- the state with the cells of a line in a new buffer of just that many, their count, and the input after the line
+-- the state where p names a new buffer with the cells of a line, as many as there are; the read count says how many, and the input goes on behind the line
 abbrev pub with_line : Buf → List ℤ → List ℕ → State → State
 with_line p cells left s = set_buf p (Some (length s.heap)) (record s { heap = s.heap ++ Some cells ∷ []; read_count = pos (length cells); input = left })
 
@@ -452,7 +453,7 @@ state_of (Ended s) = s
 state_of (Faulted k s) = s
 state_of (Stuck c n s) = s
 
--- what stands after at most m steps
+-- how far a run has come after m steps, or where it has stopped before
 abbrev pub run : Code → ℕ → State → Next
 run c zero s = Going s
 run c (suc m) s = and_then (step c s) (run c m)

@@ -19,7 +19,7 @@ pub enum Buf {
     Global(u32),
 }
 
-/// An operator of an expression. `And` and `Or` evaluate their right side only where it decides.
+/// An operator of an expression. Where its left side decides, `And` and `Or` leave the right one unevaluated.
 #[derive(Clone, Copy, Debug, PartialEq, Eq)]
 pub enum Op {
     Add,
@@ -120,9 +120,9 @@ pub struct CProgram {
 pub enum StuckCause {
     /// A place outside its buffer or table, or of no buffer.
     Outside,
-    /// A freed buffer is read, written or freed.
+    /// A statement needs a buffer that was freed before.
     Freed,
-    /// An unset whole variable is read.
+    /// A whole variable has no number yet.
     Unset,
     /// A number out of range, or a divisor 0.
     Range,

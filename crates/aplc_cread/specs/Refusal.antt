@@ -35,7 +35,7 @@ Goes scope room bytes n = (k : ℕ) × (n < k) × (k ≤ length bytes) × Begins
 
 -- ---- The place and the number
 
--- the length of the longest prefix that begins a text
+-- so many bytes from the front begin a text, and no more do
 pub record IsPlace (bytes : List ℕ) (n : ℕ) : Type 0 where
   pub within : n ≤ length bytes
   pub begins : Begins declared (Some 256) (take n bytes)

@@ -161,7 +161,7 @@ impl Machine {
         answer
     }
 
-    /// Whether no run was made, or the last one spent its budget.
+    /// Whether it can go on: there was no run yet, or the last one took all the steps that it might.
     pub fn can_run(&self) -> bool
         ensures { IsTrue result ↔ CanRun self.now }
     {

@@ -5,7 +5,7 @@ use Rattle.std.specs.Str.{bytes_eq}
 use Rattle.std.specs.String.{string_bytes}
 use Rattle.aplc_io.specs.Outside.{next, more, later_read, SinkState, SourceState, HostState, Target, target_of}
 
--- a source: what is left, the numbers of the calls that fail, the calls and the faults so far, whether it came to its
+-- a source: what is left, which calls are to fail by their numbers, how many calls and faults there were, whether it came to its
 -- end, and the reads after that
 pub record SourceMemory : Type 0 where
   pub left : List ℕ
@@ -31,7 +31,7 @@ source_failed s = record s { calls = next s.calls; faults = next s.faults; late 
 abbrev pub source_gave : SourceMemory → ℕ → SourceMemory
 source_gave s n = record s { left = drop n s.left; calls = next s.calls; met = s.met || nat_eq n 0; late = later_read s.met s.late }
 
--- a sink: what was written, the room in all, the numbers of the calls that fail, the calls and the faults so far
+-- a sink: what was written, the room in all, which calls are to fail by their numbers, and how many calls and faults there were
 pub record SinkMemory : Type 0 where
   pub bytes : List ℕ
   pub room : ℕ
@@ -68,7 +68,7 @@ file_named name (f ∷ fs) = if bytes_eq name f.0 then Some f.1 else file_named 
 abbrev pub file_entry : String Global × Vec ℕ Global → List ℕ × List ℕ
 file_entry e = (string_bytes e.0, e.1.items)
 
--- a host: its files, the text, its target and its room in all, the numbers of the calls that fail,
+-- a host: its files, the text, its target and its room in all, which calls are to fail by their numbers,
 -- the calls and the faults so far, the bytes that the last fetch took, the fetches, the texts that were begun, and the
 -- bytes of text that were taken in all
 pub record HostMemory : Type 0 where

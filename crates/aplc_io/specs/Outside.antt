@@ -4,7 +4,7 @@ use Rattle.std.specs.Prelude.{◌≡◌, ℕ, ◌+◌, ◌-◌, ◌^◌, ◌<◌
 use Rattle.aplc_io.specs.declared.traits.FetchFault.{FetchFault}
 use Rattle.aplc_io.specs.declared.traits.FetchFault.TheVariants.{Failed, TooLong, Memory}
 
--- a count of faults is greater now, or stands at its last value
+-- a count of faults went up, or is as high as it can be
 abbrev pub Rose : ℕ → ℕ → Type 0
 Rose before now = min (before + 1) (2 ^ 64 - 1) ≤ now
 
@@ -98,7 +98,7 @@ IsFile h name bytes = IfSome h.files (λ files. files name ≡ Some bytes)
 abbrev pub IsLongFile : HostState → List ℕ → ℕ → Type 0
 IsLongFile h name limit = IfSome h.files (λ files. (bytes : List ℕ) × (files name ≡ Some bytes) × (limit < length bytes))
 
--- the files are told, and none has this name
+-- it is told which files there are, and this is the name of none
 abbrev pub IsMissing : Option (List ℕ → Option (List ℕ)) → List ℕ → Type 0
 IsMissing None name = ⊥
 IsMissing (Some files) name = files name ≡ None

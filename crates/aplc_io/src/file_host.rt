@@ -23,8 +23,8 @@ enum Place {
     Broken,
 }
 
-/// The host of the runtime. It answers `Failed` to each error, a missing file included, to a write of the text
-/// that takes nothing, and to each `put_text` after a `text_to` that failed, and counts each.
+/// The host of the runtime. Each error is a fault to it, and so is a file that is not there, a write of the text
+/// that takes nothing, and a `put_text` with no place to write to, since `text_to` failed. It counts them.
 #[derive(Drop)]
 pub struct FsHost<'a> {
     rt: &'a HostRuntime,

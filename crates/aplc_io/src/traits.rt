@@ -23,7 +23,8 @@ pub trait Source {
 
     /// Reads the next bytes into the front of `buf`, and tells how many. None is the end of the input.
     ///
-    /// `Failed` comes only where the count of faults rose or stands at its last value, and takes no byte.
+    /// It answers `Failed` for no other reason than a fault, which the count tells unless it is at its end; no byte
+    /// is taken then.
     fn read(&mut self, buf: &mut [u8]) -> Result<usize, Failed>
         requires { 0 < length buf.old }
         ensures bound { IfOk result (λ n. n ≤ length buf.new) }
@@ -43,7 +44,8 @@ pub trait Sink {
 
     /// Writes some of the bytes from the front, at least one, and tells how many.
     ///
-    /// `Failed` comes only where the count of faults rose or stands at its last value, and writes nothing.
+    /// It answers `Failed` for no other reason than a fault, which the count tells unless it is at its end; nothing
+    /// is written then.
     fn write(&mut self, bytes: &[u8]) -> Result<usize, Failed>
         requires { 0 < length bytes.now }
         ensures bound { IfOk result (λ n. (0 < n) × (n ≤ length bytes.now)) }
@@ -81,9 +83,9 @@ pub trait Host {
 
     /// The bytes of a file, at most `limit` of them. It takes at most `limit + 1` bytes of the file.
     ///
-    /// `TooLong` comes where the file has more than `limit` bytes, as the last byte taken shows. `Failed` comes
-    /// only where the count of fetch faults rose or stands at its last value, or where the files are told and
-    /// none has the name. Nothing but that count changes.
+    /// It answers `TooLong` for a file that goes on behind `limit` bytes, as the last byte taken shows, and `Failed`
+    /// for a fault, which the count of fetch faults tells unless it is at its end, or for a name that none of the
+    /// told files has. Nothing but that count changes.
     fn fetch(&mut self, alloc: Global, name: &str, limit: u64) -> Result<Vec<u8>, FetchFault>
         ensures bound { IfOk result (λ v. length v.items ≤ limit) }
         ensures bytes { IfOk result (λ v. IsFile (state self.old) name.now v.items) }
@@ -98,9 +100,9 @@ pub trait Host {
     /// Begins the text anew, and says where it goes: to the file `name`, or, without a name, to the standard
     /// output, or nowhere where `run` is true. Without a call of this a text goes to the standard output.
     ///
-    /// An Ok makes the target: whether a name was given, its first 255 bytes, and `run`. Nothing else changes
-    /// it, and there is none before. The text is empty after `Failed` too, which comes only where the count of
-    /// text faults rose or stands at its last value.
+    /// What was asked for is kept as the target once this was Ok, the name cut to 255 bytes; before there is none.
+    /// `Failed` is for a fault, which the count of text faults tells unless it is at its end, and leaves an empty
+    /// text as well.
     fn text_to(&mut self, name: Option<&str>, run: bool) -> Result<(), Failed>
         ensures begun { OnOk result (state self.new ≡ text_begun (state self.old)
             (option_map (λ s. s.now) name.entry) run) }
@@ -110,7 +112,8 @@ pub trait Host {
 
     /// Writes some bytes of the text from the front, at least one, and tells how many.
     ///
-    /// `Failed` comes only where the count of text faults rose or stands at its last value, and writes nothing.
+    /// It answers `Failed` for no other reason than a fault, which the count of text faults tells unless it is at
+    /// its end; nothing is written then.
     fn put_text(&mut self, bytes: &[u8]) -> Result<usize, Failed>
         requires { 0 < length bytes.now }
         ensures bound { IfOk result (λ n. (0 < n) × (n ≤ length bytes.now)) }

@@ -45,13 +45,13 @@ pub record IsTaken (hs : List Named) (k : ℕ) (x : Named) (r : Refusal) : Type 
   pub heads : stands_in x.name.0 hs ≡ true
   pub is : r ≡ refusal twice x.place
 
--- a label of the function, or a function's name, is assigned
+-- what is assigned is the name of a function, or a label where it stands
 pub record IsAssigned (hs : List Named) (f : Outline) (k : ℕ) (m : Mention) (r : Refusal) : Type 0 where
   pub changed : m.assigned ≡ true
   pub fixed : (stands_in m.name.0 f.labels || stands_in m.name.0 hs) ≡ true
   pub is : r ≡ refusal assigned m.place
 
--- a name is local to a function from which calls lead to function i
+-- some function has the name as a local one, and its calls come to function i
 pub record IsHidden (hs : List Named) (fs : List Outline) (i n : ℕ) : Type 0 where
   pub index : ℕ
   pub owner : Outline
@@ -59,7 +59,7 @@ pub record IsHidden (hs : List Named) (fs : List Outline) (i n : ℕ) : Type 0 w
   pub local : stands_in n owner.locals ≡ true
   pub leads : Leads hs fs index i
 
--- function i, whose outline is f, uses a global name that is hidden; to assign it is a use too
+-- a name in the lines of function i, with outline f, is global there and hidden by a caller; one that is assigned counts too
 pub record IsShadowed (hs : List Named) (fs : List Outline) (i : ℕ) (f : Outline) (k : ℕ) (m : Mention) (r : Refusal) : Type 0 where
   pub no_function : stands_in m.name.0 hs ≡ false
   pub not_local : stands_in m.name.0 f.locals ≡ false
@@ -69,7 +69,7 @@ pub record IsShadowed (hs : List Named) (fs : List Outline) (i : ℕ) (f : Outli
 abbrev pub is_main : List (List ℕ) → Outline → Bool
 is_main ns f = is_called ns f.name.name.0 (codes "MAIN")
 
--- a function MAIN without arguments and result
+-- MAIN, as a function that neither takes nor gives anything
 abbrev pub is_start : List (List ℕ) → Outline → Bool
 is_start ns f = is_main ns f && f.bare
 

@@ -19,7 +19,7 @@ use Rattle.aplc_names.specs.Literals.{HasNumbersInRange, elements}
 use Rattle.aplc_names.specs.Lookups.{all_label_lines}
 use Rattle.aplc_names.specs.Fits.{HasFittingStatements, HasNames, HasNumberedNodes, is_origin, HasSmallRanks}
 
--- the program of a text of at most 262,144 bytes; each node has a number of its own
+-- what a text that is short enough for a source spells; no two nodes have one number
 pub record IsParsed (p : Program) : Type 0 where
   pub text : List ℕ
   pub tokens : List Token

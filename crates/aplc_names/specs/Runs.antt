@@ -124,7 +124,7 @@ abbrev pub run_main : PlainProgram → Marking → List ℕ → ℕ → Option R
 run_main p m input n None = outcome.Going (unstarted input n)
 run_main p m input n (Some f) = run p m (n + 1) f 1 (entered f None None (unstarted input n))
 
--- MAIN on an input with at most n lines started, those with an empty statement included
+-- MAIN on an input, stopped before line n + 1 would start; an empty line counts too
 abbrev pub evaluated : PlainProgram → Marking → List ℕ → ℕ → Outcome (Option Array)
 evaluated p m input n = run_main p m input n (main_routine p)
 

@@ -91,7 +91,7 @@ pub record Names (hs : List Named) (fs : List Outline) (i j : ℕ) : Type 0 wher
   pub stands : slice_get caller.mentions index ≡ Some said
   pub heads : first said.name.0 hs ≡ Some j
 
--- calls lead from function i to function j: names of functions, followed one or more times, reach it
+-- calls lead from function i to function j: i names j, or names a function from which calls lead to j
 pub data Leads (hs : List Named) (fs : List Outline) : ℕ → ℕ → Type 0 where
   directly : {i j : ℕ} → Names hs fs i j → Leads hs fs i j
   over : {i k j : ℕ} → Leads hs fs i k → Names hs fs k j → Leads hs fs i j

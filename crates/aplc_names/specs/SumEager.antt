@@ -19,7 +19,7 @@ pub record State : Type 0 where
   pub marks : List Place
   pub left : ℕ
 
--- An evaluation gives a value, or faults at the places as they stand, or goes on where no line may start.
+-- What an evaluation comes to: a value, a fault with all places of that moment, or a line that may not start any more.
 pub data Outcome (A : Type 0) : Type 0 where
   Gives : A → State → Outcome A
   Faulted : FaultKind → State → Outcome A
@@ -34,7 +34,7 @@ abbrev pub given : Given → State → Outcome ℤ
 given (Ok v) s = Gives v s
 given (Err k) s = Faulted k s
 
--- the right argument, then the left one, then the function
+-- from right to left: first the argument behind the function, last the function
 abbrev pub value : Sum → State → Outcome ℤ
 value (number x) s = Gives x s
 value (apply f a b) s = and_then (value b s) (λ right t. and_then (value a t) (λ left u. given (dyadic f left right) u))

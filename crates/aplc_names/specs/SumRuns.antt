@@ -24,6 +24,6 @@ main = codes "MAIN"
 abbrev pub initial : List ℕ → ℕ → State
 initial input n = record { places = record { here = record { function = main; line = 0 }; behind = [] }; input = input; output = []; marks = []; left = n }
 
--- MAIN on an input, with at most n lines started, those without a statement included
+-- MAIN on an input, stopped before line n + 1 would start; a line without a statement counts too
 unfoldable pub eager : List Task → List ℕ → ℕ → Run
 eager lines input n = run_of (lines_from 1 lines (initial input n))

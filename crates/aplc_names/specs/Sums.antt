@@ -80,7 +80,7 @@ tasks_of (l ∷ ls) = with_task (task_of l.statement) (tasks_of ls)
 
 -- ---- MAIN
 
--- the first function MAIN without arguments and result
+-- the function of the name MAIN, the first that neither takes nor gives anything
 abbrev pub main_function : Program → Option Function
 main_function p = find (λ (f : Function). is_start p.names (outline f)) p.functions
 

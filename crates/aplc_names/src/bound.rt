@@ -27,7 +27,7 @@ use aplc_syntax::{NameId, Named, Program, Var};
 use std::alloc::{AllocError, Global};
 use std::marker::Model;
 
-/// A program of a text of at most 262,144 bytes that nothing refuses, and what each name is in it.
+/// A program that nothing refuses, and what each name is in it. Its text has at most 262,144 bytes.
 #[derive(Drop)]
 pub struct Bound {
     program: Program,
@@ -86,7 +86,7 @@ fn scope_found(heads: &Table, outline: &Outline, lines: &[i64], name: NameId) ->
 }
 
 impl Bound {
-    /// The program. It is one of a text of at most 262,144 bytes, and nothing refuses it. Each statement fits the
+    /// The program, which nothing refuses. Its text has at most 262,144 bytes. Each statement fits the
     /// functions of the program: functions stand with the arguments that they take, a call of a function without a
     /// result at the root alone; numbers and characters lie in their ranges.
     pub fn program(&self) -> &Program
@@ -246,8 +246,8 @@ fn bind(program: Program, found: Findings) -> Result<Bound, Stop>
 }
 
 /// The program with what each name is in it, or its first refusal: 12 where a name stands twice or is a function's, 14
-/// where a function uses a global name that is local to a caller, 15 where no function MAIN is without arguments and
-/// result, 16 where a label or a function's name is assigned. The smallest place counts, then the smallest number.
+/// where a caller hides a global name that is used, 15 where there is no MAIN that neither takes nor gives anything,
+/// 16 where a function or a label is to be assigned. The smallest place counts, then the smallest number.
 /// `Memory` says nothing of the program.
 pub fn resolve(alloc: Global, program: Program) -> Result<Bound, Stop>
     requires { IsParsed program }

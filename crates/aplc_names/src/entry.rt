@@ -28,7 +28,7 @@ fn is_start(names: &[List<u8>], function: &Function) -> bool
     is_main(names, function.name.name) && is_bare(function)
 }
 
-/// The first function MAIN without arguments and result, where there is one.
+/// The first MAIN that neither takes nor gives anything, where there is one.
 pub fn main_function(program: &Program) -> &Function
     requires { is_some (main_function program.now) ≡ true }
     ensures { main_function program.now ≡ Some result.now }

@@ -1,5 +1,5 @@
 -- No file is neither a source nor refused.
-use Rattle.std.proofs.Common.{◌≡◌, inl, inr, ℕ, ◌<◌, ◌≤◌, List, length, Option, None, Some, refl}
+use Rattle.std.proofs.Common.{◌≡◌, inl, inr, ℕ, ◌≤◌, List, length, Option, None, Some, refl}
 use Rattle.aplc_lex.specs.declared.token.Token.{Token}
 use Rattle.aplc_lex.specs.declared.token.Refusal.{Refusal}
 use Rattle.aplc_lex.specs.Tokens.{AreTokens}

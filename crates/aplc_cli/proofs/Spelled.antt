@@ -1,5 +1,5 @@
 -- Tokens for which no refusal stands spell a program.
-use Rattle.std.proofs.Common.{◌≡◌, ◌⊎◌, inl, inr, ℕ, zero, suc, ◌+◌, ◌<◌, ◌≤◌, Bool, true, false, List, [], ◌∷◌, ◌++◌, length, All, get_or, filter_map, Option, None, Some, ℤ, pos, refl, sym, ap, subst, ◌∙◌, arith}
+use Rattle.std.proofs.Common.{◌≡◌, inl, inr, ℕ, zero, suc, ◌<◌, ◌≤◌, Bool, true, false, List, [], ◌∷◌, ◌++◌, length, All, get_or, filter_map, Option, None, Some, ℤ, pos, refl, sym, ap, subst, ◌∙◌, arith}
 use Rattle.std.specs.Prelude.{Contains}
 use Rattle.std.specs.List.{AllZip, slice_get}
 use Rattle.aplc_lex.specs.declared.token.Token.{Token}
@@ -13,9 +13,9 @@ use Rattle.aplc_syntax.specs.declared.word.Word.{Word}
 use Rattle.aplc_syntax.specs.Words.{words, names_in}
 use Rattle.aplc_syntax.specs.Grammar.{Sentence, spell}
 use Rattle.aplc_syntax.specs.Trees.{statement_of, nodes_of}
-use Rattle.aplc_syntax.specs.Layout.{Row, lines, Block, block, Part, outside, function, part, parts, begins_with_del, parts_of, blocks, above, below, Header, header_of, headers, label_of, sentence, Declaration, nothing, origin, var, declaration, origin_of, var_of}
-use Rattle.aplc_syntax.specs.Programs.{too_deep, IsLine, IsClosing, IsFunction, IsOrigin, Declare, IsProgramOf}
-use Rattle.aplc_syntax.specs.Refusals.{bad_header, bad_form, many_nodes, high_count, bad_declaration, stray, StandsIn, deep, strayed, formless, too_many, BeginsAt, DeclaresOrigin, Stands, misheaded, misclosed, unclosed, in_statement, line_1000, function_1000, undeclared, second_origin, not_bare}
+use Rattle.aplc_syntax.specs.Layout.{Row, lines, Block, part, parts, begins_with_del, parts_of, blocks, above, below, Header, header_of, headers, label_of, sentence, Declaration, nothing, origin, var, declaration, origin_of, var_of}
+use Rattle.aplc_syntax.specs.Programs.{too_deep, IsLine, IsClosing, IsFunction, IsOrigin, IsProgramOf}
+use Rattle.aplc_syntax.specs.Refusals.{bad_header, bad_form, many_nodes, high_count, bad_declaration, stray, StandsIn, deep, strayed, formless, too_many, BeginsAt, Stands, misheaded, misclosed, unclosed, in_statement, line_1000, function_1000, undeclared, second_origin, not_bare}
 use Rattle.aplc_cli.proofs.Places.{order}
 
 -- ---- Lists

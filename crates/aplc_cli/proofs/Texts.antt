@@ -6,7 +6,7 @@ use Rattle.aplc_cprof.specs.Text.{program_text}
 use Rattle.aplc_cprof.specs.WellFormed.{declared, is_formed, IsText}
 use Rattle.aplc_cprof.proofs.WellFormedPlain.{program_of_text}
 use Rattle.aplc_cread.specs.declared.answer.CRefusal.{CRefusal}
-use Rattle.aplc_cread.specs.Refusal.{every_name, Begins, Goes, HasBadByte, IsPlace, IsNumber, IsRefused}
+use Rattle.aplc_cread.specs.Refusal.{every_name, Begins, Goes, HasBadByte, IsPlace, IsNumber}
 use Rattle.aplc_cread.proofs.Answering.{one_refused}
 use Rattle.aplc_lex.specs.declared.token.Refusal.{Refusal}
 use Rattle.aplc_cli.specs.Compiled.{text_limit, text_refusal, IsRefusedText}

@@ -1,5 +1,5 @@
 -- Each refusal has a word.
-use Rattle.std.proofs.Common.{◌≡◌, inl, inr, ℕ, ◌<◌, ◌≤◌, List, refl, sym, ap, subst, ◌∙◌}
+use Rattle.std.proofs.Common.{◌≡◌, inl, inr, ℕ, List, refl, sym, subst}
 use Rattle.std.specs.Prelude.{IsSome}
 use Rattle.aplc_lex.specs.declared.token.Refusal.{Refusal}
 use Rattle.aplc_lex.specs.Tokens as lex
@@ -8,8 +8,7 @@ use Rattle.aplc_syntax.specs.declared.word.Word.{Word}
 use Rattle.aplc_syntax.specs.Refusals as syntax
 use Rattle.aplc_syntax.specs.declared.tree.Program.{Program}
 use Rattle.aplc_names.specs.Clashes as names
-use Rattle.aplc_cread.specs.declared.answer.CRefusal.{CRefusal}
-use Rattle.aplc_cread.specs.Refusal.{IsNumber, IsRefused}
+use Rattle.aplc_cread.specs.Refusal.{IsNumber}
 use Rattle.aplc_cli.specs.declared.words.Action.{Action}
 use Rattle.aplc_cli.specs.declared.words.Action.TheVariants as action
 use Rattle.aplc_cli.specs.Sources.{IsRefusedSource, too_long, in_tokens, in_program, in_names, not_built}

@@ -1,5 +1,5 @@
 -- What a call of the program comes to.
-use Rattle.std.specs.Prelude.{◌≡◌, ◌⊎◌, ℕ, ◌≤◌, false, true, List, [], take, length, ◌<◌, Option, None, Some, Result, Ok, Err}
+use Rattle.std.specs.Prelude.{◌≡◌, ◌⊎◌, ℕ, ◌≤◌, false, true, List, take, length, ◌<◌, Option, None, Some, Result, Ok, Err}
 use Rattle.aplc_io.specs.Outside.{next, more, SourceState, SinkState, HostState, Target, target_of, Rose, IsFile, FetchFails, TextNotBegun, IsMissing, set_to, sink_with}
 use Rattle.aplc_io.specs.Parts.{PartWritten, Tried}
 use Rattle.aplc_io.specs.declared.traits.Failed.{Failed}

@@ -129,7 +129,12 @@ fn files_and_bytes(rt: HostRuntime) -> Result<(), Fail> {
     assert_eq!(rt; put_all(&mut host, bytes.as_slice()), Ok(()));
     let again = host.fetch(alloc, "written", 10_000)?;
     assert!(rt; again.as_slice() == bytes.as_slice());
-    assert!(rt; matches!(host.fetch(alloc, "written", 9_999), Err(FetchFault::TooLong)));
+    assert!(rt;
+        matches!(
+            host.fetch(alloc, "written", 9_999),
+            Err(FetchFault::TooLong)
+        )
+    );
     Ok(())
 }
 

@@ -22,7 +22,6 @@ use Rattle.aplc_names.specs.Runs.{Runner, entered, back, call_routine, caller, l
 use Rattle.aplc_names.specs.RunLaws.{IsPrefix}
 use Rattle.aplc_names.proofs.Carried.{OnSome, OnEach, OnDone, OnLine, OnLiterals, OnListed, OnArgument, OnAction, Keeps, Comes, Calls, comes-then, comes-made, comes-there, comes-dyad, comes-index, comes-assign-at, comes-call, comes-perform, comes-entry, comes-branched, comes-statement, comes-change_there}
 
-
 pub record Extends (v w : World) : Type 0 where
   pub output : IsPrefix v.output w.output
   pub marks : IsPrefix v.marks w.marks

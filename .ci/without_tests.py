@@ -4,7 +4,7 @@
 usage: without_tests.py COPY
 
 What stands behind a line `#[cfg(test)]` goes, to its `;` or to the closing brace at the start of a line, and with a module
-its file and its proofs. All else stays byte for byte.
+its file and its proofs. A crate whose name ends in `_tests` goes with its line of crates.txt. All else stays byte for byte.
 """
 
 import pathlib
@@ -13,6 +13,7 @@ import shutil
 import sys
 
 TESTS = re.compile(r"\n*^#\[cfg\(test\)\]\n(?:mod (\w+)(?:;$| \{\n(?:.*\n)*?\}$))(?=\n)", re.MULTILINE)
+CRATE_OF_TESTS = re.compile(r"^\w+_tests\b.*\n", re.MULTILINE)
 
 
 def clean(file):
@@ -30,6 +31,15 @@ def clean(file):
         shutil.rmtree(source.parent / "proofs" / name, ignore_errors=True)
 
 
-for file in sorted(pathlib.Path(sys.argv[1]).glob("crates/*/src/**/*.rt")):
+def drop_crates_of_tests(copy):
+    crates = copy / "crates.txt"
+    crates.write_text(CRATE_OF_TESTS.sub("", crates.read_text(encoding="utf-8")), encoding="utf-8")
+    for folder in copy.glob("crates/*_tests"):
+        shutil.rmtree(folder)
+
+
+copy = pathlib.Path(sys.argv[1])
+drop_crates_of_tests(copy)
+for file in sorted(copy.glob("crates/*/src/**/*.rt")):
     if file.exists():
         clean(file)

@@ -1,0 +1,6 @@
+//! Tests of the crates below, each by what its crate makes public.
+//! It must not hold anything that another crate could want.
+#![tactic(auto)]
+
+#[cfg(test)]
+mod scalar_tests;

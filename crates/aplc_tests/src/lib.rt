@@ -3,4 +3,6 @@
 #![tactic(auto)]
 
 #[cfg(test)]
+mod arr_tests;
+#[cfg(test)]
 mod scalar_tests;

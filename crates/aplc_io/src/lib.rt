@@ -8,8 +8,6 @@ mod memory_sink;
 mod memory_source;
 mod send;
 mod standard;
-#[cfg(test)]
-mod tests;
 mod traits;
 
 pub use file_host::FsHost;

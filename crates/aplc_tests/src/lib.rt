@@ -5,4 +5,6 @@
 #[cfg(test)]
 mod arr_tests;
 #[cfg(test)]
+mod io_tests;
+#[cfg(test)]
 mod scalar_tests;

@@ -1,7 +1,10 @@
 //! Answers of the objects in memory with ample memory, and of the adapters over small readers and writers.
 ghost use Rattle.std.specs.Prelude.{◌≤◌, IfOk};
 
-use super::*;
+use aplc_io::{
+    Failed, FetchFault, FsHost, Host, MemHost, MemSink, MemSource, Sink, Source, StdSink,
+    StdSource, put_all, write_all, write_pieces,
+};
 use std::io::{self, Read, Write};
 use std::test::Fail;
 

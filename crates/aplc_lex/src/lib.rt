@@ -9,8 +9,6 @@ mod laws;
 mod list;
 mod runs;
 mod signs;
-#[cfg(test)]
-mod tests;
 mod token;
 
 pub use comparing::{earlier, sooner};

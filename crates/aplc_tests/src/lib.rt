@@ -7,4 +7,6 @@ mod arr_tests;
 #[cfg(test)]
 mod io_tests;
 #[cfg(test)]
+mod lex_tests;
+#[cfg(test)]
 mod scalar_tests;

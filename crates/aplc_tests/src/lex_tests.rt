@@ -1,8 +1,8 @@
 //! Texts with their tokens or their refusal, as the language's rules give them.
 //! It must not take an expected answer from `tokens`.
 
-use crate::{List, Refusal, Span, Stop, Token, TokenKind, tokens};
-use TokenKind::{LineEnd, Name, Number, NumsInput, Symbol, Text};
+use aplc_lex::TokenKind::{LineEnd, Name, Number, NumsInput, Symbol, Text};
+use aplc_lex::{List, Refusal, Span, Stop, Token, TokenKind, tokens};
 use std::alloc::Global;
 use std::test::Fail;
 
@@ -31,7 +31,7 @@ fn refusal_of(alloc: Global, text: &[u8]) -> Option<Refusal> {
 }
 
 #[test]
-fn texts(rt: HostRuntime) -> Result<(), Fail> {
+fn accepted_texts(rt: HostRuntime) -> Result<(), Fail> {
     let accepted: [(&str, &[Token]); 14] = [
         ("", &[]),
         ("\u{feff}", &[]),
@@ -85,6 +85,11 @@ fn texts(rt: HostRuntime) -> Result<(), Fail> {
         assert_eq!(rt; found.as_slice(), want, "{text}");
         assert_eq!(rt; found.into_vec().len(), want.len(), "{text}");
     }
+    Ok(())
+}
+
+#[test]
+fn every_sign(rt: HostRuntime) -> Result<(), Fail> {
     let spelled = tokens(rt.alloc(), SPELLED.as_bytes())?;
     let mut place: u64 = 0;
     assert_eq!(rt; spelled.len(), 47);
@@ -93,6 +98,11 @@ fn texts(rt: HostRuntime) -> Result<(), Fail> {
         assert_eq!(rt; *token, at(place, end, Symbol(meant)), "{sign}");
         place = end;
     }
+    Ok(())
+}
+
+#[test]
+fn refused_texts(rt: HostRuntime) -> Result<(), Fail> {
     let refused: [(&[u8], u8, u64); 33] = [
         (b"'abc", 3, 0),
         (b"A 'abc\n'", 3, 2),

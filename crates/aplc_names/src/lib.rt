@@ -14,8 +14,6 @@ mod run_laws;
 mod scope;
 mod shadows;
 mod table;
-#[cfg(test)]
-mod tests;
 
 pub use aplc_lex::{Refusal, Stop};
 pub use bound::{Bound, resolve};

@@ -9,4 +9,6 @@ mod io_tests;
 #[cfg(test)]
 mod lex_tests;
 #[cfg(test)]
+mod names_tests;
+#[cfg(test)]
 mod scalar_tests;

@@ -10,8 +10,6 @@ mod preamble;
 mod printing;
 mod statements;
 mod syntax;
-#[cfg(test)]
-mod tests;
 
 pub use building::Builder;
 pub use laws::{kept_calls, one_program};

@@ -5,6 +5,8 @@
 #[cfg(test)]
 mod arr_tests;
 #[cfg(test)]
+mod cprof_tests;
+#[cfg(test)]
 mod io_tests;
 #[cfg(test)]
 mod lex_tests;

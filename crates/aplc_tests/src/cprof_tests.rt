@@ -4,7 +4,9 @@
 ghost use Rattle.std.specs.Prelude.{◌≡◌, IfOk};
 ghost use Rattle.aplc_cprof.specs.Examples.{sample_body, sample};
 
-use crate::{CExpr, CFunction, CProgram, CStmt, Checked, Int, List, Op, preamble_bytes, print};
+use aplc_cprof::{
+    CExpr, CFunction, CProgram, CStmt, Checked, Int, List, Op, preamble_bytes, print,
+};
 use sqlite_items::{Boxed, Items};
 use std::alloc::{AllocError, Global};
 use std::test::Fail;

@@ -4,8 +4,6 @@
 
 mod building;
 mod checking;
-#[cfg(test)]
-mod form_tests;
 mod functions;
 mod header;
 mod items;
@@ -19,8 +17,6 @@ mod roles;
 mod stack;
 mod statement;
 mod step;
-#[cfg(test)]
-mod tests;
 mod texts;
 mod tree;
 mod word;

@@ -7,10 +7,16 @@ mod arr_tests;
 #[cfg(test)]
 mod cprof_tests;
 #[cfg(test)]
+mod form_tests;
+#[cfg(test)]
 mod io_tests;
 #[cfg(test)]
 mod lex_tests;
 #[cfg(test)]
 mod names_tests;
 #[cfg(test)]
+mod pieces;
+#[cfg(test)]
 mod scalar_tests;
+#[cfg(test)]
+mod syntax_tests;

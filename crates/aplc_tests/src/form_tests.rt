@@ -1,8 +1,9 @@
 //! Lines of a function with the tree or the refusal that the language's rules give each.
 //! It must not take an expected answer from `parse`.
 
-use crate::{Form, NameId, Node, Program, Statement, Stop, parse};
+use crate::pieces::times;
 use aplc_lex::tokens;
+use aplc_syntax::{Form, NameId, Node, Program, Statement, Stop, parse};
 use sqlite_items::Boxed;
 use std::alloc::Global;
 use std::string::String;
@@ -338,15 +339,6 @@ fn refused_lines(rt: HostRuntime) -> Result<(), Fail> {
         assert_eq!(rt; found.as_str(), expected, "{line}");
     }
     Ok(())
-}
-
-/// One piece so many times.
-fn times(alloc: Global, piece: &str, count: usize) -> Result<String, Fail> {
-    let mut out = String::new(alloc);
-    for _ in 0..count {
-        out.push_str(piece)?;
-    }
-    Ok(out)
 }
 
 #[test]

@@ -1,9 +1,10 @@
 //! Sources, and what the language's rules make of each: a program in short, or a refusal.
 //! It must not take an expected answer from `parse`.
 
-use crate::{Function, Line, Named, Program, Statement, Stop, parse};
+use crate::pieces::times;
 use aplc_lex::tokens;
 use aplc_scalar::Kind;
+use aplc_syntax::{Function, Line, Named, Program, Statement, Stop, parse};
 use std::alloc::Global;
 use std::string::String;
 use std::test::Fail;
@@ -151,30 +152,16 @@ fn sources(rt: HostRuntime) -> Result<(), Fail> {
     Ok(())
 }
 
-/// A source with a piece of it so many times.
-fn repeated(
-    alloc: Global,
-    head: &str,
-    piece: &str,
-    times: usize,
-    tail: &str,
-) -> Result<String, Fail> {
-    let mut out = format!(in alloc; "{head}")?;
-    for _ in 0..times {
-        out.push_str(piece)?;
-    }
-    out.push_str(tail)?;
-    Ok(out)
-}
-
 #[test]
 fn counts(rt: HostRuntime) -> Result<(), Fail> {
     let alloc = rt.alloc();
-    let lines = repeated(alloc, "∇MAIN\n", "\n", 1000, "∇")?;
+    let lines = times(alloc, "\n", 1000)?;
+    let lines = format!(in alloc; "∇MAIN\n{lines}∇")?;
     assert_eq!(rt; answer(alloc, lines.as_str())?.as_str(), "10 at 1007");
-    let functions = repeated(alloc, "", "∇F\n∇\n", 1000, "")?;
+    let functions = times(alloc, "∇F\n∇\n", 1000)?;
     assert_eq!(rt; answer(alloc, functions.as_str())?.as_str(), "10 at 8991");
-    let fewer = repeated(alloc, "", "∇F\n∇\n", 999, "X")?;
+    let fewer = times(alloc, "∇F\n∇\n", 999)?;
+    let fewer = format!(in alloc; "{fewer}X")?;
     assert_eq!(rt; answer(alloc, fewer.as_str())?.as_str(), "11 at 8991");
     Ok(())
 }

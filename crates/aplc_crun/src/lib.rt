@@ -19,18 +19,12 @@ mod print;
 mod quick;
 mod reading;
 mod run_live;
-#[cfg(test)]
-mod run_tests;
 mod running;
 mod sizes;
 mod sprint;
 mod step;
 mod stop;
-#[cfg(test)]
-mod switch_tests;
 mod term;
-#[cfg(test)]
-mod tests;
 
 pub use aplc_cprof::StuckCause;
 pub use machine::Machine;

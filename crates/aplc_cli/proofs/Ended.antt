@@ -4,6 +4,7 @@ use Rattle.aplc_io.specs.Outside.{more, SourceState, SinkState, HostState, Targe
 use Rattle.aplc_io.specs.Parts.{PartOfText}
 use Rattle.aplc_cprof.specs.declared.syntax.CProgram.{CProgram}
 use Rattle.aplc_cprof.specs.Behaviour.{behaviour}
+use Rattle.aplc_cprof.specs.WellFormed.{IsWellFormed}
 use Rattle.aplc_cread.specs.declared.answer.CRefusal.{CRefusal}
 use Rattle.aplc_cread.specs.declared.answer.CStop.TheVariants as c_stop
 use Rattle.aplc_cread.specs.Refusal.{IsAnswer}
@@ -73,6 +74,14 @@ long_file h name limit is_long = long h.files is_long
     long : (files : Option (List ℕ → Option (List ℕ))) → IfSome files (λ f. (bytes : List ℕ) × (f name ≡ Some bytes) × (limit < length bytes)) → (file : List ℕ) × IfSome files (λ f. f name ≡ Some file) × (limit < length file)
     long None t = (zeros (suc limit), tt, (let e = length-zeros (suc limit) in omega arith))
     long (Some f) t = (t.0, t.1, t.2)
+
+-- ---- The program, well formed
+
+pub formed_made : (name : List ℕ) (h h2 : HostState) (m : CProgram × List ℕ) → Made action.Compile name h h2 (Ok m) → IsWellFormed m.0
+formed_made name h h2 m d = d.1.1.1.is_text.well_formed
+
+pub formed_read : (name : List ℕ) (h h2 : HostState) (n : ℕ) (m : CProgram × List ℕ) → Made (action.Exec n) name h h2 (Ok m) → IsWellFormed m.0
+formed_read name h h2 n m d = d.1.1.1.1.well_formed
 
 -- ---- The text, sent
 

@@ -3,6 +3,7 @@
 
 ghost use Rattle.std.specs.Prelude.{◌≡◌, true, false, None, Some, []};
 ghost use Rattle.aplc_io.specs.Outside.{next, HostState, target_of};
+ghost use Rattle.aplc_cprof.specs.WellFormed.{IsWellFormed};
 ghost use Rattle.aplc_cli.specs.Came.{told, result_map};
 ghost use Rattle.aplc_cli.specs.Call.{outside, Fetched, Made, Sends, RanText};
 
@@ -89,6 +90,7 @@ pub fn run_text<H: Host, S: Source, O: Sink>(
     out: &mut O,
     budget: u64,
 ) -> Result<Ending, Stop>
+    requires formed { IsWellFormed made.program }
     ensures unfetched { H.fetches host.new ≡ H.fetches host.old }
     ensures late { S.met input.old ≡ false → S.late input.new ≡ S.late input.old }
     ensures ran { RanText (Some record { target = target_of None true; bytes = made.text.items }) made.program budget
@@ -115,6 +117,7 @@ pub fn run_program<S: Source, O: Sink>(
     out: &mut O,
     budget: u64,
 ) -> Result<Ending, Stop>
+    requires formed { IsWellFormed program }
     ensures late { S.met input.old ≡ false → S.late input.new ≡ S.late input.old }
     ensures ran { (h : HostState) → RanText None program budget
         (outside h (S.state input.old) (O.state out.old))

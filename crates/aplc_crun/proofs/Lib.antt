@@ -2,6 +2,7 @@ mod Advancing
 mod Callers
 mod Decoding
 mod Follow
+mod Formed
 mod Frames
 mod Gathering
 mod Laid

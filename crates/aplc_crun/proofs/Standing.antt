@@ -3,6 +3,7 @@ use Rattle.std.proofs.Common.{◌≡◌, ◌∙◌, ap, sym, refl, subst, ℕ, �
 use Rattle.std.specs.Prelude.{slice_get, replicate, Some, option_map}
 use Rattle.std.proofs.lemmas.List.{length-replicate, length-map}
 use Rattle.aplc_cprof.specs.declared.syntax.CProgram.{CProgram}
+use Rattle.aplc_cprof.specs.WellFormed.{IsWellFormed}
 use Rattle.aplc_cprof.specs.Machine.{State, Todo, Code, Next, code_of, bodies_from, first_body, initial, run, no_ints, no_bufs, held, empty_place, Place, Places, all_places}
 use Rattle.aplc_crun.specs.declared.code.Node.{Node}
 use Rattle.aplc_crun.specs.declared.code.Entry.{Entry}
@@ -13,11 +14,12 @@ use Rattle.aplc_crun.specs.declared.live.Verdict.TheVariants as verdict
 use Rattle.aplc_crun.specs.Seen.{joined, or_zero}
 use Rattle.aplc_crun.specs.Flat.{Flat, Flow, flat_of, layout_of, flat_run, none_of}
 use Rattle.aplc_crun.specs.Laying.{Spot, Due, Globals, IsLaid, Setting, Sound, AllFit, code_for, state_of, place_at}
-use Rattle.aplc_crun.specs.Building.{globals, nowhere, Agrees, LaidFunctions}
+use Rattle.aplc_crun.specs.Building.{globals, nowhere, Agrees, FunctionsOk, LaidFunctions}
 use Rattle.aplc_crun.specs.Pausing.{paused}
 use Rattle.aplc_crun.specs.Running.{setting, Stands, next_of, Comes, StartsAt, start_flat, places_of}
 use Rattle.aplc_crun.proofs.Frames.{frame_none, globals_zero}
 use Rattle.aplc_crun.proofs.Follow.{Meets, Marked, run_meets}
+use Rattle.aplc_crun.proofs.Formed.{formed_functions}
 use Rattle.aplc_crun.proofs.Laid.{is_laid, agrees_get}
 use Rattle.aplc_crun.proofs.Callers.{get_map}
 
@@ -74,13 +76,14 @@ start_state k nodes e ints bufs c input due =
     ∙ ap (λ (v : ℕ → Option ℕ). made no_ints no_bufs (λ n. pos 0) v (first_body c.bodies) input) (frame_none bufs)
 
 -- the machine at the start
-pub start_stands : (p : CProgram) (m : Machine) (e : Entry) → LaidFunctions (globals p.ints p.bufs) m.laid.nodes.items m.laid.entries.items p.functions → m.laid.tables.items ≡ p.tables → StartsAt m.laid.entries.items e → flat_of m.live ≡ start_flat e p.ints p.bufs → m.ahead.items ≡ [] → (input : List ℕ) → Stands p m [] input (initial (code_of p) input)
-start_stands p m e g tables starts live ahead input =
+pub start_stands : (p : CProgram) (m : Machine) (e : Entry) → IsWellFormed p → LaidFunctions m.laid.nodes.items m.laid.entries.items p.functions → m.laid.tables.items ≡ p.tables → StartsAt m.laid.entries.items e → flat_of m.live ≡ start_flat e p.ints p.bufs → m.ahead.items ≡ [] → (input : List ℕ) → Stands p m [] input (initial (code_of p) input)
+start_stands p m e formed laid tables starts live ahead input =
+    let g : FunctionsOk p m.laid.nodes.items m.laid.entries.items p.functions = laid.ok p in
     let k : Due = λ n. get_or g.dues n nowhere in
     let a : Agrees k 0 g.dues = agrees_get 0 0 g.dues k (λ i. ap (λ n. get_or g.dues n nowhere) (zero-add i)) in
     let leaves : k 0 ≡ nowhere = g.leaves k a in
     let bodies : map (λ (e : Entry). (k e.at).todo) m.laid.entries.items ≡ bodies_from 1 p.functions = g.starts k a in
-    let l : IsLaid (globals p.ints p.bufs) k (layout_of m.laid) = is_laid (globals p.ints p.bufs) (layout_of m.laid) p.functions g in
+    let l : IsLaid (globals p.ints p.bufs) k (layout_of m.laid) = is_laid p (layout_of m.laid) p.functions g (formed_functions p formed) in
     let fits : ((k e.at).ints ≤ e.ints) × ((k e.at).bufs ≤ e.bufs) = first_fits k m.laid.entries.items e (g.fits k a) starts leaves in
     let room : Sound (globals p.ints p.bufs) k [] (start_flat e p.ints p.bufs) = record {
       ints = let h = length-replicate {A = Option ℤ} e.ints None in omega (arith, fits.0);

@@ -4,24 +4,15 @@
 ghost use Rattle.std.specs.Prelude.{◌≡◌, ◌+◌, ◌∷◌, ◌++◌, [], OnOk, IfOk, length, map};
 ghost use Rattle.aplc_cprof.specs.declared.syntax.CStmt.TheVariants as stmt;
 ghost use Rattle.aplc_crun.specs.declared.code.Node.TheVariants as form;
-ghost use Rattle.aplc_crun.specs.Building.{IntInRoom, BufInRoom, LaidStmt, LaidBlock, LaidArms, LaidFunctions, OpenedIf, OpenedWhile, choices_of, arm_size, entry, globals};
+ghost use Rattle.aplc_crun.specs.Building.{LaidStmt, LaidBlock, LaidArms, LaidFunctions, OpenedIf, OpenedWhile, place_after, choices_up, arm_size, entry};
 ghost use Rattle.aplc_cprof.specs.Machine.{size, total};
 
 use crate::choices::{Choice, Choices};
 use crate::code::{Entry, Laid, Node};
-use crate::sizes::{after, after_all, after_arms, begin, next_place};
+use crate::sizes::{after, after_all, after_arms, begin};
 use crate::term::laid_term;
 use aplc_cprof::{Arm, Buf, CExpr, CFunction, CProgram, CStmt, Checked, Int, List};
 use std::alloc::{AllocError, Global};
-
-/// How many variables the statements of a function may name.
-#[derive(Clone, Copy, Debug, PartialEq, Eq)]
-pub struct Room {
-    pub ints: usize,
-    pub bufs: usize,
-    pub global_ints: usize,
-    pub global_bufs: usize,
-}
 
 fn copy_name(alloc: Global, name: &[u8]) -> Result<List<u8>, AllocError>
     ensures { IfOk result (λ c. c ≡ name.now) }
@@ -30,39 +21,16 @@ fn copy_name(alloc: Global, name: &[u8]) -> Result<List<u8>, AllocError>
     Ok(List::from_vec(bytes))
 }
 
-/// A variable that a function does not declare is in no well formed program.
-fn int_in_room(room: Room, x: Int) -> Result<(), AllocError>
-    ensures { OnOk result (IntInRoom room x) }
-{
-    match x {
-        Int::Local(n) if (n as usize) < room.ints => Ok(()),
-        Int::Global(n) if (n as usize) < room.global_ints => Ok(()),
-        _ => Err(AllocError),
-    }
-}
-
-fn buf_in_room(room: Room, p: Buf) -> Result<(), AllocError>
-    ensures { OnOk result (BufInRoom room p) }
-{
-    match p {
-        Buf::Local(n) if (n as usize) < room.bufs => Ok(()),
-        Buf::Global(n) if (n as usize) < room.global_bufs => Ok(()),
-        _ => Err(AllocError),
-    }
-}
-
 #[tactic(auto, using(crate::proofs::Laid::laid_Set))]
 fn lay_set(
     alloc: Global,
-    room: Room,
     code: &mut Vec<Node>,
     x: Int,
     e: &CExpr,
     next: usize,
 ) -> Result<(), AllocError>
-    ensures { OnOk result (LaidStmt room code.old.items code.new.items (stmt.Set x e.now) next) }
+    ensures { OnOk result (LaidStmt code.old.items code.new.items (stmt.Set x e.now) next) }
 {
-    int_in_room(room, x)?;
     let e = laid_term(alloc, e)?;
     code.push(Node::Set(x, e, next))?;
     Ok(())
@@ -71,14 +39,13 @@ fn lay_set(
 #[tactic(auto, using(crate::proofs::Laid::laid_SetCell))]
 fn lay_set_cell(
     alloc: Global,
-    room: Room,
     code: &mut Vec<Node>,
     p: Buf,
     e: &CExpr,
     f: &CExpr,
     next: usize,
 ) -> Result<(), AllocError>
-    ensures { OnOk result (LaidStmt room code.old.items code.new.items (stmt.SetCell p e.now f.now) next) }
+    ensures { OnOk result (LaidStmt code.old.items code.new.items (stmt.SetCell p e.now f.now) next) }
 {
     let e = laid_term(alloc, e)?;
     let f = laid_term(alloc, f)?;
@@ -88,15 +55,13 @@ fn lay_set_cell(
 
 #[tactic(auto, using(crate::proofs::Laid::laid_SetBuf))]
 fn lay_set_buf(
-    room: Room,
     code: &mut Vec<Node>,
     p: Buf,
     q: Option<Buf>,
     next: usize,
 ) -> Result<(), AllocError>
-    ensures { OnOk result (LaidStmt room code.old.items code.new.items (stmt.SetBuf p q) next) }
+    ensures { OnOk result (LaidStmt code.old.items code.new.items (stmt.SetBuf p q) next) }
 {
-    buf_in_room(room, p)?;
     code.push(Node::SetBuf(p, q, next))?;
     Ok(())
 }
@@ -104,15 +69,13 @@ fn lay_set_buf(
 #[tactic(auto, using(crate::proofs::Laid::laid_Cells))]
 fn lay_cells(
     alloc: Global,
-    room: Room,
     code: &mut Vec<Node>,
     p: Buf,
     e: &CExpr,
     next: usize,
 ) -> Result<(), AllocError>
-    ensures { OnOk result (LaidStmt room code.old.items code.new.items (stmt.Cells p e.now) next) }
+    ensures { OnOk result (LaidStmt code.old.items code.new.items (stmt.Cells p e.now) next) }
 {
-    buf_in_room(room, p)?;
     let e = laid_term(alloc, e)?;
     code.push(Node::Cells(p, e, next))?;
     Ok(())
@@ -121,7 +84,6 @@ fn lay_cells(
 #[tactic(auto, using(crate::proofs::Laid::laid_Check))]
 fn lay_check(
     alloc: Global,
-    room: Room,
     code: &mut Vec<Node>,
     x: Int,
     o: Checked,
@@ -129,9 +91,8 @@ fn lay_check(
     f: &CExpr,
     next: usize,
 ) -> Result<(), AllocError>
-    ensures { OnOk result (LaidStmt room code.old.items code.new.items (stmt.Check x o e.now f.now) next) }
+    ensures { OnOk result (LaidStmt code.old.items code.new.items (stmt.Check x o e.now f.now) next) }
 {
-    int_in_room(room, x)?;
     let e = laid_term(alloc, e)?;
     let f = laid_term(alloc, f)?;
     code.push(Node::Check(x, o, e, f, next))?;
@@ -141,15 +102,13 @@ fn lay_check(
 #[tactic(auto, using(crate::proofs::Laid::laid_Width))]
 fn lay_width(
     alloc: Global,
-    room: Room,
     code: &mut Vec<Node>,
     x: Int,
     e: &CExpr,
     next: usize,
 ) -> Result<(), AllocError>
-    ensures { OnOk result (LaidStmt room code.old.items code.new.items (stmt.Width x e.now) next) }
+    ensures { OnOk result (LaidStmt code.old.items code.new.items (stmt.Width x e.now) next) }
 {
-    int_in_room(room, x)?;
     let e = laid_term(alloc, e)?;
     code.push(Node::Width(x, e, next))?;
     Ok(())
@@ -158,13 +117,12 @@ fn lay_width(
 #[tactic(auto, using(crate::proofs::Laid::laid_PutNum))]
 fn lay_put_num(
     alloc: Global,
-    room: Room,
     code: &mut Vec<Node>,
     e: &CExpr,
     f: &CExpr,
     next: usize,
 ) -> Result<(), AllocError>
-    ensures { OnOk result (LaidStmt room code.old.items code.new.items (stmt.PutNum e.now f.now) next) }
+    ensures { OnOk result (LaidStmt code.old.items code.new.items (stmt.PutNum e.now f.now) next) }
 {
     let e = laid_term(alloc, e)?;
     let f = laid_term(alloc, f)?;
@@ -175,12 +133,11 @@ fn lay_put_num(
 #[tactic(auto, using(crate::proofs::Laid::laid_PutChar))]
 fn lay_put_char(
     alloc: Global,
-    room: Room,
     code: &mut Vec<Node>,
     e: &CExpr,
     next: usize,
 ) -> Result<(), AllocError>
-    ensures { OnOk result (LaidStmt room code.old.items code.new.items (stmt.PutChar e.now) next) }
+    ensures { OnOk result (LaidStmt code.old.items code.new.items (stmt.PutChar e.now) next) }
 {
     let e = laid_term(alloc, e)?;
     code.push(Node::PutChar(e, next))?;
@@ -188,28 +145,25 @@ fn lay_put_char(
 }
 
 #[tactic(auto, using(crate::proofs::Laid::laid_ReadText))]
-fn lay_read_text(room: Room, code: &mut Vec<Node>, p: Buf, next: usize) -> Result<(), AllocError>
-    ensures { OnOk result (LaidStmt room code.old.items code.new.items (stmt.ReadText p) next) }
+fn lay_read_text(code: &mut Vec<Node>, p: Buf, next: usize) -> Result<(), AllocError>
+    ensures { OnOk result (LaidStmt code.old.items code.new.items (stmt.ReadText p) next) }
 {
-    buf_in_room(room, p)?;
     code.push(Node::ReadText(p, next))?;
     Ok(())
 }
 
 #[tactic(auto, using(crate::proofs::Laid::laid_ReadNums))]
-fn lay_read_nums(room: Room, code: &mut Vec<Node>, p: Buf, next: usize) -> Result<(), AllocError>
-    ensures { OnOk result (LaidStmt room code.old.items code.new.items (stmt.ReadNums p) next) }
+fn lay_read_nums(code: &mut Vec<Node>, p: Buf, next: usize) -> Result<(), AllocError>
+    ensures { OnOk result (LaidStmt code.old.items code.new.items (stmt.ReadNums p) next) }
 {
-    buf_in_room(room, p)?;
     code.push(Node::ReadNums(p, next))?;
     Ok(())
 }
 
 #[tactic(auto, using(crate::proofs::Laid::laid_ReadCount))]
-fn lay_read_count(room: Room, code: &mut Vec<Node>, x: Int, next: usize) -> Result<(), AllocError>
-    ensures { OnOk result (LaidStmt room code.old.items code.new.items (stmt.ReadCount x) next) }
+fn lay_read_count(code: &mut Vec<Node>, x: Int, next: usize) -> Result<(), AllocError>
+    ensures { OnOk result (LaidStmt code.old.items code.new.items (stmt.ReadCount x) next) }
 {
-    int_in_room(room, x)?;
     code.push(Node::ReadCount(x, next))?;
     Ok(())
 }
@@ -217,13 +171,12 @@ fn lay_read_count(room: Room, code: &mut Vec<Node>, x: Int, next: usize) -> Resu
 #[tactic(auto, using(crate::proofs::Laid::laid_At))]
 fn lay_at(
     alloc: Global,
-    room: Room,
     code: &mut Vec<Node>,
     name: &[u8],
     line: i64,
     next: usize,
 ) -> Result<(), AllocError>
-    ensures { OnOk result (LaidStmt room code.old.items code.new.items (stmt.At name.now line) next) }
+    ensures { OnOk result (LaidStmt code.old.items code.new.items (stmt.At name.now line) next) }
 {
     let name = copy_name(alloc, name)?;
     code.push(Node::At(name, line, next))?;
@@ -237,7 +190,7 @@ fn place_arms(
     arms: &[Arm],
     next: usize,
 ) -> Result<Vec<Choice>, AllocError>
-    ensures { IfOk result (λ choices. choices.items ≡ choices_of at arms.now next) }
+    ensures { IfOk result (λ choices. choices.items ≡ choices_up at arms.now next) }
 {
     let mut choices = Vec::new(alloc);
     let mut place = at;
@@ -248,22 +201,22 @@ fn place_arms(
             value: arm.value,
             at: here,
         })?;
-        place = after_all(place, body)?;
+        place = after_all(place, body);
     }
     Ok(choices)
 }
 
 #[tactic(auto, using(crate::proofs::Laid::laid_Free))]
-fn lay_free(room: Room, code: &mut Vec<Node>, p: Buf, next: usize) -> Result<(), AllocError>
-    ensures { OnOk result (LaidStmt room code.old.items code.new.items (stmt.Free p) next) }
+fn lay_free(code: &mut Vec<Node>, p: Buf, next: usize) -> Result<(), AllocError>
+    ensures { OnOk result (LaidStmt code.old.items code.new.items (stmt.Free p) next) }
 {
     code.push(Node::Free(p, next))?;
     Ok(())
 }
 
 #[tactic(auto, using(crate::proofs::Laid::laid_Call))]
-fn lay_call(room: Room, code: &mut Vec<Node>, f: u32, next: usize) -> Result<(), AllocError>
-    ensures { OnOk result (LaidStmt room code.old.items code.new.items (stmt.Call f) next) }
+fn lay_call(code: &mut Vec<Node>, f: u32, next: usize) -> Result<(), AllocError>
+    ensures { OnOk result (LaidStmt code.old.items code.new.items (stmt.Call f) next) }
 {
     code.push(Node::Call(f, next))?;
     Ok(())
@@ -281,7 +234,7 @@ fn open_if(
     ensures { OnOk result (OpenedIf code.old.items code.new.items e.now (entry a.now (length code.old.items + 1) next) next) }
 {
     let e = laid_term(alloc, e)?;
-    let start = next_place(code.len())?;
+    let start = code.len() + 1;
     let met = begin(a, start, next);
     code.push(Node::If(e, met, next))?;
     Ok(())
@@ -297,12 +250,12 @@ fn open_else(
     o: &[CStmt],
     next: usize,
 ) -> Result<(), AllocError>
-    ensures { OnOk result (OpenedIf code.old.items code.new.items e.now (entry a.now (length code.old.items + 1) next) (entry o.now (length code.old.items + 1 + total (map size a.now)) next)) }
+    ensures { OnOk result (OpenedIf code.old.items code.new.items e.now (entry a.now (length code.old.items + 1) next) (entry o.now (place_after (length code.old.items + 1) (total (map size a.now))) next)) }
 {
     let e = laid_term(alloc, e)?;
-    let start = next_place(code.len())?;
+    let start = code.len() + 1;
     let met = begin(a, start, next);
-    let middle = after_all(start, a)?;
+    let middle = after_all(start, a);
     let other = begin(o, middle, next);
     code.push(Node::If(e, met, other))?;
     Ok(())
@@ -321,7 +274,7 @@ fn open_while(
 {
     let e = laid_term(alloc, e)?;
     let at = code.len();
-    let start = next_place(at)?;
+    let start = at + 1;
     let body = begin(a, start, at);
     code.push(Node::While(e, body, next))?;
     Ok(())
@@ -337,81 +290,70 @@ fn open_switch(
     d: &[CStmt],
     next: usize,
 ) -> Result<(), AllocError>
-    ensures { OnOk result (code.new.items ≡ code.old.items ++ form.Switch x (choices_of (length code.old.items + 1) arms.now next) (entry d.now (length code.old.items + 1 + total (map arm_size arms.now)) next) ∷ []) }
+    ensures { OnOk result (code.new.items ≡ code.old.items ++ form.Switch x (choices_up (length code.old.items + 1) arms.now next) (entry d.now (place_after (length code.old.items + 1) (total (map arm_size arms.now))) next) ∷ []) }
 {
-    let start = next_place(code.len())?;
+    let start = code.len() + 1;
     let choices = place_arms(alloc, start, arms, next)?;
-    let middle = after_arms(start, arms)?;
+    let middle = after_arms(start, arms);
     let other = begin(d, middle, next);
     code.push(Node::Switch(x, Choices::new(choices), other))?;
     Ok(())
 }
 
+fn lay_node(code: &mut Vec<Node>, node: Node) -> Result<(), AllocError>
+    ensures { OnOk result (code.new.items ≡ code.old.items ++ node ∷ []) }
+{
+    code.push(node)?;
+    Ok(())
+}
+
 #[cycle(lays)]
 #[tactic(auto, using(crate::proofs::Laid::lays))]
-fn lay_stmt(
-    alloc: Global,
-    room: Room,
-    code: &mut Vec<Node>,
-    x: &CStmt,
-    next: usize,
-) -> Result<(), AllocError>
-    ensures { OnOk result (LaidStmt room code.old.items code.new.items x.now next) }
+fn lay_stmt(alloc: Global, code: &mut Vec<Node>, x: &CStmt, next: usize) -> Result<(), AllocError>
+    ensures { OnOk result (LaidStmt code.old.items code.new.items x.now next) }
 {
     match x {
-        CStmt::Set(x, e) => lay_set(alloc, room, code, *x, e, next),
-        CStmt::SetCell(p, e, f) => lay_set_cell(alloc, room, code, *p, e, f, next),
-        CStmt::SetBuf(p, q) => lay_set_buf(room, code, *p, *q, next),
-        CStmt::Cells(p, e) => lay_cells(alloc, room, code, *p, e, next),
-        CStmt::Check(x, o, e, f) => lay_check(alloc, room, code, *x, *o, e, f, next),
-        CStmt::Width(x, e) => lay_width(alloc, room, code, *x, e, next),
-        CStmt::PutNum(e, f) => lay_put_num(alloc, room, code, e, f, next),
-        CStmt::PutChar(e) => lay_put_char(alloc, room, code, e, next),
-        CStmt::ReadText(p) => lay_read_text(room, code, *p, next),
-        CStmt::ReadNums(p) => lay_read_nums(room, code, *p, next),
-        CStmt::ReadCount(x) => lay_read_count(room, code, *x, next),
-        CStmt::At(name, line) => lay_at(alloc, room, code, name.as_slice(), *line, next),
-        CStmt::Enter => {
-            code.push(Node::Enter(next))?;
-            Ok(())
-        }
-        CStmt::Leave => {
-            code.push(Node::Leave(next))?;
-            Ok(())
-        }
-        CStmt::Free(p) => lay_free(room, code, *p, next),
-        CStmt::Fault(kind) => {
-            code.push(Node::Fault(*kind))?;
-            Ok(())
-        }
-        CStmt::Call(f) => lay_call(room, code, *f, next),
-        CStmt::Return => {
-            code.push(Node::Return)?;
-            Ok(())
-        }
+        CStmt::Set(x, e) => lay_set(alloc, code, *x, e, next),
+        CStmt::SetCell(p, e, f) => lay_set_cell(alloc, code, *p, e, f, next),
+        CStmt::SetBuf(p, q) => lay_set_buf(code, *p, *q, next),
+        CStmt::Cells(p, e) => lay_cells(alloc, code, *p, e, next),
+        CStmt::Check(x, o, e, f) => lay_check(alloc, code, *x, *o, e, f, next),
+        CStmt::Width(x, e) => lay_width(alloc, code, *x, e, next),
+        CStmt::PutNum(e, f) => lay_put_num(alloc, code, e, f, next),
+        CStmt::PutChar(e) => lay_put_char(alloc, code, e, next),
+        CStmt::ReadText(p) => lay_read_text(code, *p, next),
+        CStmt::ReadNums(p) => lay_read_nums(code, *p, next),
+        CStmt::ReadCount(x) => lay_read_count(code, *x, next),
+        CStmt::At(name, line) => lay_at(alloc, code, name.as_slice(), *line, next),
+        CStmt::Enter => lay_node(code, Node::Enter(next)),
+        CStmt::Leave => lay_node(code, Node::Leave(next)),
+        CStmt::Free(p) => lay_free(code, *p, next),
+        CStmt::Fault(kind) => lay_node(code, Node::Fault(*kind)),
+        CStmt::Call(f) => lay_call(code, *f, next),
+        CStmt::Return => lay_node(code, Node::Return),
         CStmt::If(e, a, o) => match o {
             None => {
                 open_if(alloc, code, e, a.as_slice(), next)?;
-                lay_block(alloc, room, code, a.as_slice(), next)?;
+                lay_block(alloc, code, a.as_slice(), next)?;
                 Ok(())
             }
             Some(o) => {
                 open_else(alloc, code, e, a.as_slice(), o.as_slice(), next)?;
-                lay_block(alloc, room, code, a.as_slice(), next)?;
-                lay_block(alloc, room, code, o.as_slice(), next)?;
+                lay_block(alloc, code, a.as_slice(), next)?;
+                lay_block(alloc, code, o.as_slice(), next)?;
                 Ok(())
             }
         },
         CStmt::While(e, a) => {
             let at = code.len();
             open_while(alloc, code, e, a.as_slice(), next)?;
-            lay_block(alloc, room, code, a.as_slice(), at)?;
+            lay_block(alloc, code, a.as_slice(), at)?;
             Ok(())
         }
         CStmt::Switch(x, arms, d) => {
             open_switch(alloc, code, *x, arms.as_slice(), d.as_slice(), next)?;
-            lay_arms(alloc, room, code, arms.as_slice(), next)?;
-            lay_block(alloc, room, code, d.as_slice(), next)?;
+            lay_arms(alloc, code, arms.as_slice(), next)?;
+            lay_block(alloc, code, d.as_slice(), next)?;
             Ok(())
         }
     }
@@ -421,12 +363,11 @@ fn lay_stmt(
 #[tactic(auto, using(crate::proofs::Laid::lays))]
 fn lay_block(
     alloc: Global,
-    room: Room,
     code: &mut Vec<Node>,
     xs: &[CStmt],
     next: usize,
 ) -> Result<(), AllocError>
-    ensures { OnOk result (LaidBlock room code.old.items code.new.items xs.now next) }
+    ensures { OnOk result (LaidBlock code.old.items code.new.items xs.now next) }
 {
     let count = xs.len();
     if count == 0 {
@@ -435,11 +376,11 @@ fn lay_block(
     let last = count - 1;
     for i in 0..last {
         let x = &xs[i];
-        let next_one = after(code.len(), x)?;
-        lay_stmt(alloc, room, code, x, next_one)?;
+        let next_one = after(code.len(), x);
+        lay_stmt(alloc, code, x, next_one)?;
     }
     let x = &xs[last];
-    lay_stmt(alloc, room, code, x, next)?;
+    lay_stmt(alloc, code, x, next)?;
     Ok(())
 }
 
@@ -447,15 +388,14 @@ fn lay_block(
 #[tactic(auto, using(crate::proofs::Laid::lays))]
 fn lay_arms(
     alloc: Global,
-    room: Room,
     code: &mut Vec<Node>,
     arms: &[Arm],
     next: usize,
 ) -> Result<(), AllocError>
-    ensures { OnOk result (LaidArms room code.old.items code.new.items arms.now next) }
+    ensures { OnOk result (LaidArms code.old.items code.new.items arms.now next) }
 {
     for arm in arms {
-        lay_block(alloc, room, code, arm.body.as_slice(), next)?;
+        lay_block(alloc, code, arm.body.as_slice(), next)?;
     }
     Ok(())
 }
@@ -468,13 +408,8 @@ struct Placed {
 }
 
 #[tactic(auto, using(crate::proofs::Laid::programs))]
-fn lay_functions(
-    alloc: Global,
-    ints: u32,
-    bufs: u32,
-    functions: &[CFunction],
-) -> Result<Placed, AllocError>
-    ensures { IfOk result (λ l. LaidFunctions (globals ints bufs) l.nodes.items l.entries.items functions.now) }
+fn lay_functions(alloc: Global, functions: &[CFunction]) -> Result<Placed, AllocError>
+    ensures { IfOk result (λ l. LaidFunctions l.nodes.items l.entries.items functions.now) }
 {
     let mut nodes = Vec::new(alloc);
     let mut entries = Vec::new(alloc);
@@ -482,17 +417,11 @@ fn lay_functions(
     for f in functions {
         let body = f.body.as_slice();
         let at = begin(body, nodes.len(), 0);
-        let room = Room {
-            ints: f.ints as usize,
-            bufs: f.bufs as usize,
-            global_ints: ints as usize,
-            global_bufs: bufs as usize,
-        };
-        lay_block(alloc, room, &mut nodes, body, 0)?;
+        lay_block(alloc, &mut nodes, body, 0)?;
         entries.push(Entry {
             at,
-            ints: room.ints,
-            bufs: room.bufs,
+            ints: f.ints as usize,
+            bufs: f.bufs as usize,
         })?;
     }
     Ok(Placed { nodes, entries })
@@ -500,16 +429,16 @@ fn lay_functions(
 
 /// Lays a program out, and drops it.
 pub fn lay(alloc: Global, program: CProgram) -> Result<Laid, AllocError>
-    ensures functions { IfOk result (λ l. LaidFunctions (globals program.ints program.bufs) l.nodes.items l.entries.items program.functions) }
+    ensures functions { IfOk result (λ l. LaidFunctions l.nodes.items l.entries.items program.functions) }
     ensures tables { IfOk result (λ l. l.tables.items ≡ program.tables) }
 {
     let CProgram {
         tables,
-        ints,
-        bufs,
         functions,
+        ints: _,
+        bufs: _,
     } = program;
-    let placed = lay_functions(alloc, ints, bufs, functions.as_slice())?;
+    let placed = lay_functions(alloc, functions.as_slice())?;
     let Placed { nodes, entries } = placed;
     Ok(Laid {
         nodes,

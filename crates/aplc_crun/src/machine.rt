@@ -3,6 +3,7 @@
 
 ghost use Rattle.std.specs.Prelude.{◌≡◌, ◌+◌, ◌<◌, ◌≤◌, ◌^◌, ℕ, List, [], ◌∷◌, false, length, reverse, IfOk, Some, Err, IsTrue, ◌↔◌, option_map, slice_get};
 ghost use Rattle.aplc_cprof.specs.declared.syntax.CProgram.{CProgram};
+ghost use Rattle.aplc_cprof.specs.WellFormed.{IsWellFormed};
 ghost use Rattle.aplc_cprof.specs.Machine.{State, all_places, code_of, initial, held};
 ghost use Rattle.aplc_crun.specs.Flat.{flat_of};
 ghost use Rattle.aplc_crun.specs.Laying.{place_at};
@@ -107,10 +108,9 @@ fn line_at(nodes: &[Node], mark: Option<usize>) -> i64
 
 impl Machine {
     /// The machine at the start of a program. It takes what the first frame, the statements, the places and the output
-    /// need.
-    ///
-    /// A program in which a function names a variable that is not declared is not well formed, and is refused.
+    /// need. Want of memory is the only error.
     pub fn start(alloc: Global, program: CProgram) -> Result<Machine, AllocError>
+        requires formed { IsWellFormed program }
         ensures stands { IfOk result (λ m. (input : List ℕ) → Stands program m [] input (initial (code_of program) input)) }
         ensures ready { IfOk result CanRun }
         ensures fresh { IfOk result (λ m. (m.live.steps ≡ 0) × (m.ended ≡ false)) }

@@ -3,7 +3,7 @@ use Rattle.std.proofs.Common.{Ok, Err, refl, []}
 use Rattle.aplc_cli.specs.declared.words.Action.TheVariants as action
 use Rattle.aplc_cli.specs.Came.{told, result_map}
 use Rattle.aplc_cli.specs.Call.{Outside}
-use Rattle.aplc_cli.proofs.Ended.{unmade, to_execute, ran}
+use Rattle.aplc_cli.proofs.Ended.{formed_read, unmade, to_execute, ran}
 use Rattle.aplc_cli.proofs.top.execute_file.Goals as goal
 
 pub returns-in_err-program-clause-works : goal.returns-in_err-program-clause-works
@@ -24,3 +24,7 @@ returns-clause-works g c =
     let new : Outside = record { host = g.H.Host.state c.read_text.new.host; input = g.S.Source.state c.run_program.new.input; out = g.O.Sink.state c.run_program.new.out } in
     ran c.args.name.now (action.Exec c.args.budget) h i o c.args.budget refl (c.in_ok-program.program, []) h2 new (result_map told c.run_program.result)
     (to_execute c.args.name.now h h2 c.args.budget (Ok (c.in_ok-program.program, [])) c.in_ok-program.ensures.made) (c.run_program.ensures.ran (g.H.Host.state c.read_text.new.host))
+
+pub run_program-requires-clause-formed : goal.run_program-requires-clause-formed
+run_program-requires-clause-formed g c =
+    formed_read c.args.name.now (g.H.Host.state c.args.host.now) (g.H.Host.state c.read_text.new.host) 0 (c.in_ok-program.program, []) c.in_ok-program.ensures.made

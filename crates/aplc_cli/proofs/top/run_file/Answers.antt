@@ -3,7 +3,7 @@ use Rattle.std.proofs.Common.{Ok, Err, refl}
 use Rattle.aplc_cli.specs.declared.words.Action.TheVariants as action
 use Rattle.aplc_cli.specs.Came.{told, result_map}
 use Rattle.aplc_cli.specs.Call.{Outside}
-use Rattle.aplc_cli.proofs.Ended.{unmade, to_run, ran}
+use Rattle.aplc_cli.proofs.Ended.{formed_made, unmade, to_run, ran}
 use Rattle.aplc_cli.proofs.top.run_file.Goals as goal
 
 pub returns-in_err-made-clause-works : goal.returns-in_err-made-clause-works
@@ -24,3 +24,7 @@ returns-clause-works g c =
     let new : Outside = record { host = g.H.Host.state c.run_text.new.host; input = g.S.Source.state c.run_text.new.input; out = g.O.Sink.state c.run_text.new.out } in
     ran c.args.name.now (action.Run c.args.budget) h i o c.args.budget refl (c.in_ok-made.made.program, c.in_ok-made.made.text.items) h2 new (result_map told c.run_text.result)
     (to_run c.args.name.now h h2 c.args.budget (Ok (c.in_ok-made.made.program, c.in_ok-made.made.text.items)) c.in_ok-made.ensures.made) c.run_text.ensures.ran
+
+pub run_text-requires-clause-formed : goal.run_text-requires-clause-formed
+run_text-requires-clause-formed g c =
+    formed_made c.args.name.now (g.H.Host.state c.args.host.now) (g.H.Host.state c.make.new.host) (c.in_ok-made.made.program, c.in_ok-made.made.text.items) c.in_ok-made.ensures.made

@@ -1,5 +1,5 @@
 -- The list of callers, whose next one is at its end.
-use Rattle.std.proofs.Common.{◌≡◌, ◌∙◌, ap, sym, refl, arith, ℕ, zero, suc, ◌+◌, ◌-◌, ◌<◌, Option, Some, None, option_map, List, [], ◌∷◌, ◌++◌, length, map, get_or, reverse}
+use Rattle.std.proofs.Common.{◌≡◌, ◌∙◌, ap, sym, refl, arith, ℕ, zero, suc, ◌-◌, ◌<◌, Option, Some, None, option_map, List, [], ◌∷◌, ◌++◌, length, map, get_or, reverse}
 use Rattle.std.specs.Prelude.{slice_get}
 use Rattle.std.proofs.lemmas.List.{reverse-append, length-reverse, get_or-reverse}
 use Rattle.aplc_crun.specs.declared.live.Frame.{Frame}

@@ -1,5 +1,5 @@
 -- What the parts of a well formed statement, block or program are.
-use Rattle.std.proofs.Common.{◌≡◌, ap, subst, refl, ℕ, zero, suc, ◌<◌, List, [], ◌∷◌, ◌++◌, length, map, Option, Some, None, Bool, true, false, ◌&&◌, IsTrue, nat_lt, arith}
+use Rattle.std.proofs.Common.{ap, subst, refl, ℕ, zero, suc, ◌<◌, List, [], ◌∷◌, ◌++◌, length, map, Option, Some, None, Bool, true, false, ◌&&◌, IsTrue, nat_lt, arith}
 use Rattle.std.proofs.lemmas.Bool.Decides.{nat_tests}
 use Rattle.aplc_cprof.specs.declared.syntax.Int.{Int}
 use Rattle.aplc_cprof.specs.declared.syntax.Buf.{Buf}
@@ -115,6 +115,12 @@ formed_function p (g ∷ fs) f h =
     let q = both (is_function (declared p g) (Some 256) g) (are_functions (declared p) (Some 256) (fs ++ f ∷ [])) h in
     let r = formed_function p fs f q.1 in
     (together (is_function (declared p g) (Some 256) g) (are_functions (declared p) (Some 256) fs) q.0 r.0, r.1)
+
+pub some_function : (p : CProgram) → IsWellFormed p → 0 < length p.functions
+unfolding is_formed
+some_function p h =
+    let before = is_count p.ints && is_count p.bufs && is_count (length p.tables) && is_count (length p.functions) && are_tables p.tables in
+    less 0 (length p.functions) (both before (nat_lt 0 (length p.functions)) (both (before && nat_lt 0 (length p.functions)) (are_functions (declared p) (Some 256) p.functions) h).0).1
 
 pub formed_functions : (p : CProgram) → IsWellFormed p → AreFormedFunctions p p.functions
 unfolding is_formed

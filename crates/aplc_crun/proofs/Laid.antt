@@ -24,7 +24,7 @@ use Rattle.aplc_crun.specs.declared.code.Node.TheVariants as form
 use Rattle.aplc_crun.specs.declared.choices.Choice.{Choice}
 use Rattle.aplc_crun.specs.declared.code.Entry.{Entry}
 use Rattle.aplc_crun.specs.Flat.{Layout}
-use Rattle.aplc_crun.specs.Laying.{Spot, Due, Globals, NodeOk, PartOk, AllFit, IsLaid}
+use Rattle.aplc_crun.specs.Laying.{Spot, Due, NodeOk, PartOk, AllFit, IsLaid}
 use Rattle.aplc_crun.specs.Building.{globals_of, globals, IsFormedStmt, AreFormedFunctions, spot, nowhere, Within, Agrees, entry, BlockOk, place_after, arm_size, choices_of, choices_up, ArmsOk, OpenedIf, OpenedWhile, LaidStmt, LaidBlock, LaidArms, FunctionsOk, LaidFunctions, sizes_of}
 use Rattle.aplc_crun.proofs.Formed.{in_Set, in_SetBuf, in_Cells, in_Check, in_Width, in_ReadText, in_ReadNums, in_ReadCount, formed_function}
 use Rattle.aplc_crun.proofs.Parts.{agrees_first, agrees_second, part_append, onward_at, last_at, int_in, buf_in, stmt_leaf, stmt_while, stmt_if, stmt_else, stmt_switch, block_none, block_more, arms_none, arms_more}

@@ -23,6 +23,10 @@ use Rattle.aplc_crun.proofs.Formed.{formed_functions}
 use Rattle.aplc_crun.proofs.Laid.{is_laid, agrees_get}
 use Rattle.aplc_crun.proofs.Callers.{get_map}
 
+pub starts_at : (es : List Entry) (e : Entry) → 0 < length es → e ≡ get_or es 0 e → StartsAt es e
+starts_at [] e h is = absurd (omega arith)
+starts_at (x ∷ es) e h is = is
+
 first_due : (k : Due) (es : List Entry) (e : Entry) (bodies : List Todo) → map (λ (e : Entry). (k e.at).todo) es ≡ bodies → StartsAt es e → (k 0).todo ≡ [] → (k e.at).todo ≡ first_body bodies
 first_due k [] e bodies starts is leaves = ap (λ (e : Entry). (k e.at).todo) is ∙ leaves ∙ ap first_body starts
 first_due k (x ∷ es) e bodies starts is leaves = ap (λ (e : Entry). (k e.at).todo) is ∙ ap first_body starts

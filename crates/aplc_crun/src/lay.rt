@@ -54,12 +54,7 @@ fn lay_set_cell(
 }
 
 #[tactic(auto, using(crate::proofs::Laid::laid_SetBuf))]
-fn lay_set_buf(
-    code: &mut Vec<Node>,
-    p: Buf,
-    q: Option<Buf>,
-    next: usize,
-) -> Result<(), AllocError>
+fn lay_set_buf(code: &mut Vec<Node>, p: Buf, q: Option<Buf>, next: usize) -> Result<(), AllocError>
     ensures { OnOk result (LaidStmt code.old.items code.new.items (stmt.SetBuf p q) next) }
 {
     code.push(Node::SetBuf(p, q, next))?;
@@ -409,7 +404,8 @@ struct Placed {
 
 #[tactic(auto, using(crate::proofs::Laid::programs))]
 fn lay_functions(alloc: Global, functions: &[CFunction]) -> Result<Placed, AllocError>
-    ensures { IfOk result (λ l. LaidFunctions l.nodes.items l.entries.items functions.now) }
+    ensures functions { IfOk result (λ l. LaidFunctions l.nodes.items l.entries.items functions.now) }
+    ensures count { IfOk result (λ l. length l.entries.items ≡ length functions.now) }
 {
     let mut nodes = Vec::new(alloc);
     let mut entries = Vec::new(alloc);
@@ -430,6 +426,7 @@ fn lay_functions(alloc: Global, functions: &[CFunction]) -> Result<Placed, Alloc
 /// Lays a program out, and drops it.
 pub fn lay(alloc: Global, program: CProgram) -> Result<Laid, AllocError>
     ensures functions { IfOk result (λ l. LaidFunctions l.nodes.items l.entries.items program.functions) }
+    ensures count { IfOk result (λ l. length l.entries.items ≡ length program.functions) }
     ensures tables { IfOk result (λ l. l.tables.items ≡ program.tables) }
 {
     let CProgram {

@@ -36,17 +36,12 @@ pub struct Machine {
     pub(crate) ready: bool,
 }
 
+#[tactic(auto, using(crate::proofs::Standing::starts_at))]
 fn first(entries: &[Entry]) -> Entry
+    requires { 0 < length entries.now }
     ensures { StartsAt entries.now result }
 {
-    match entries.get(0) {
-        None => Entry {
-            at: 0,
-            ints: 0,
-            bufs: 0,
-        },
-        Some(entry) => *entry,
-    }
+    entries[0]
 }
 
 fn first_live(alloc: Global, entry: Entry, ints: u32, bufs: u32) -> Result<Live, AllocError>

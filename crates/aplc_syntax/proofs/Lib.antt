@@ -3,6 +3,7 @@ mod Examples
 mod Whole
 mod Refused
 pub mod PlainForms
+mod PlainTreeExamples
 pub mod Complete
 pub mod Built
 pub mod Counted

@@ -15,8 +15,6 @@ mod name;
 mod program;
 mod range;
 mod table;
-#[cfg(test)]
-mod tests;
 mod whole;
 
 pub use answer::{CRefusal, CStop};

@@ -7,6 +7,8 @@ mod arr_tests;
 #[cfg(test)]
 mod cprof_tests;
 #[cfg(test)]
+mod cread_tests;
+#[cfg(test)]
 mod form_tests;
 #[cfg(test)]
 mod io_tests;

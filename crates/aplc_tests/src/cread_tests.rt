@@ -4,8 +4,8 @@
 ghost use Rattle.aplc_cprof.specs.WellFormed.{IsWellFormed};
 ghost use Rattle.aplc_cread.specs.Refusal.{IsRead};
 
-use crate::{CRefusal, CStop, read};
 use aplc_cprof::{Buf, CExpr, CProgram, CStmt, Int, preamble_bytes, print, tail_bytes};
+use aplc_cread::{CRefusal, CStop, read};
 use std::alloc::{AllocError, Global};
 use std::test::Fail;
 
@@ -176,7 +176,7 @@ const ONE_PLACE: &[u8] = b" = \"\";\n";
 #[test]
 fn lines_of_a_function(rt: HostRuntime) -> Result<(), Fail> {
     let alloc = rt.alloc();
-    let cases: [(&str, u8, u64); 21] = [
+    let cases: [(&str, u8, u64); 23] = [
         ("v0 = 1LL;\n", 33, 45),
         ("int64_t v0;\nv0 = (1LL  + 2LL);\n", 32, 67),
         ("int64_t v0;\nv10 = 1LL;\n", 33, 58),
@@ -198,6 +198,16 @@ fn lines_of_a_function(rt: HostRuntime) -> Result<(), Fail> {
         ("at(\"A\u{2200}\", 1);\n", 31, 52),
         ("leaves();\n", 32, 50),
         ("return;\n}\n}\n", 32, 55),
+        (
+            "int64_t v0;\nswitch (v0) {\ncase 7: {\n} break;\ncase 3: {\n",
+            32,
+            96,
+        ),
+        (
+            "int64_t v0;\nswitch (v0) {\ncase 7: {\n} break;\ncase 7: {\n",
+            32,
+            96,
+        ),
     ];
     for (lines, number, place) in cases {
         let bytes = text(alloc, &[HEAD, lines.as_bytes(), END, tail_bytes()])?;

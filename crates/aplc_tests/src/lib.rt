@@ -19,6 +19,12 @@ mod names_tests;
 #[cfg(test)]
 mod pieces;
 #[cfg(test)]
+mod runner_tests;
+#[cfg(test)]
 mod scalar_tests;
 #[cfg(test)]
+mod switch_tests;
+#[cfg(test)]
 mod syntax_tests;
+#[cfg(test)]
+mod walk_tests;

@@ -1,5 +1,5 @@
 -- Accounts, computed: the greatest account of a whole run with its marking, and its work.
-use Rattle.std.specs.Prelude.{◌≡◌, ◌++◌, List, [], ◌∷◌, pos, negsuc, true, false, Some, None, codes, refl}
+use Rattle.std.specs.Prelude.{◌≡◌, ◌++◌, [], ◌∷◌, pos, true, false, Some, None, codes, refl}
 use Rattle.std.specs.Fmt.{digits}
 use lib.Utf8.{encode}
 use Rattle.aplc_scalar.specs.Scalar.{in_range}
@@ -12,7 +12,7 @@ use Rattle.aplc_names.specs.declared.scope.Scope.TheVariants as scope
 use Rattle.aplc_names.specs.PlainPrograms.{nothing, quiet, perform, display, branch, PlainProgram}
 use Rattle.aplc_names.specs.States.{final}
 use Rattle.aplc_names.specs.Runs.{Ended, Faulted, eager, peak, work, evaluated}
-use Rattle.aplc_names.proofs.RunExamples.{routine, program, marking, at}
+use Rattle.aplc_names.proofs.RunExamples.{routine, program, marking, at, alone}
 
 -- The nodes that are held, those that are swept and the roots of pieces are told by their numbers, which are their places
 -- in the source from MAIN's del on.
@@ -90,7 +90,7 @@ called_work = refl
 overflow : PlainProgram
 overflow = program (routine (codes "MAIN") None None None [] ((0, scope.Function 0) ∷ []) (display (Dyad 11 11 (pr.Scalar f.Add) (Numbers 8 8 (pos 1 ∷ pos 2 ∷ [])) (Dyad 31 31 (pr.Scalar f.Add) (Numbers 12 12 (pos 9223372036854775807 ∷ [])) (Numbers 32 32 (pos 1 ∷ pos 1 ∷ pos 1 ∷ [])))) ∷ []) ∷ [])
 
-overflow_run : eager overflow (marking [] (11 ∷ 31 ∷ []) (11 ∷ 12 ∷ [])) [] 1000 ≡ Faulted [] (at (codes "MAIN") 1 ∷ []) fault.Limit (at (codes "MAIN") 1 ∷ [])
+overflow_run : eager overflow (marking [] (11 ∷ 31 ∷ []) (11 ∷ 12 ∷ [])) [] 1000 ≡ Faulted [] (at (codes "MAIN") 1 ∷ []) fault.Limit (alone 1)
 unfolding eager overflow in_range digits encode
 overflow_run = refl
 

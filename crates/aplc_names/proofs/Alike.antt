@@ -1,8 +1,7 @@
 -- Two evaluations of one program that differ in the marking, or in how many more lines may start.
-use Rattle.std.proofs.Common.{◌≡◌, ℕ, zero, suc, ◌+◌, List, [], ◌∷◌, ◌++◌, length, Option, Some, None, refl, sym, ap, ◌∙◌, subst, arith, Bool, true, false}
+use Rattle.std.proofs.Common.{◌≡◌, ℕ, zero, suc, ◌+◌, List, ◌∷◌, ◌++◌, Option, Some, None, refl, sym, ap, ◌∙◌, subst, arith, Bool, true, false}
 use Rattle.std.specs.Prelude.{ℤ, Result, Ok, Err, slice_get, nat_lt}
 use Rattle.aplc_scalar.specs.declared.kind.FaultKind.{FaultKind}
-use Rattle.aplc_scalar.specs.declared.kind.FaultKind.TheVariants as fault
 use Rattle.aplc_scalar.specs.declared.kind.Kind.{Kind}
 use Rattle.aplc_scalar.specs.declared.kind.Kind.TheVariants.{Num, Char}
 use Rattle.aplc_scalar.specs.Input.{InputLine, Line, Unread, input_line, number_line}
@@ -15,12 +14,12 @@ use Rattle.aplc_names.specs.declared.scope.Scope.{Scope}
 use Rattle.aplc_names.specs.declared.scope.Scope.TheVariants as scope
 use Rattle.aplc_names.specs.PlainPrograms.{Action, nothing, quiet, perform, display, branch, Routine, PlainProgram, main_routine}
 use Rattle.aplc_names.specs.Primitives.{mono_of, dyad_of, dyad_applications, places_listed}
-use Rattle.aplc_names.specs.States.{World, Account, State, Marking, Outcome, Gives, Faulted, Going, and_then, final, on_world, on_account, worked, ended}
+use Rattle.aplc_names.specs.States.{depth, World, Account, State, Marking, Outcome, Gives, Faulted, Going, and_then, final, on_world, worked}
 use Rattle.aplc_names.specs.Eager.{Caller, Context, Use, passed, stored, displayed, ready, filled, made, none_for, put, scalar, value_of_name, there, read_line, with_value, assigned, change, change_there, function_of, called, value, values, argument, branch_to, branched, statement}
-use Rattle.aplc_names.specs.Runs.{Runner, entered, back, call_routine, caller, line_at, started, from_line, context, run, run_main, run_of, unstarted, evaluated, eager, work}
+use Rattle.aplc_names.specs.Runs.{Runner, call_routine, caller, line_at, started, from_line, context, run, run_main, run_of, initial, evaluated, eager, work}
 use Rattle.aplc_names.specs.RunLaws.{IsFreeOfMarkings, IsGoing, output, marks, IsPrefix, StaysOver, OnlyGrows}
-use Rattle.aplc_names.proofs.Carried.{OnEach, Comes, Calls, comes-made, comes-there, comes-dyad, comes-index, comes-assigned, comes-assign-at, comes-change_there, comes-put, comes-call, comes-perform, comes-entry, comes-branched}
-use Rattle.aplc_names.proofs.Growing.{Extends, extends-same, extends-then, same-list, Grows, GrowsCalls, GrowsRuns, grows-then, grows-call, grows-line, grows-run, grows-by, back-extends, AnyValue, Anything, extending, done-any, some-any, each-any, literals-any, listed-any, argument-any}
+use Rattle.aplc_names.proofs.Carried.{OnEach, ends, Any, Comes, Calls, comes-made, comes-there, comes-dyad, comes-index, comes-assigned, comes-assign-at, comes-change_there, comes-put, comes-call, comes-perform, comes-entry}
+use Rattle.aplc_names.proofs.Growing.{Extends, extends-same, same-list, Grows, GrowsCalls, GrowsRuns, grows-then, grows-call, grows-line, grows-run, grows-by, back-extends, AnyValue, extending, done-any, some-any, each-any, literals-any, listed-any, argument-any}
 
 abbrev pub st : World → Account → State
 st w a = record { world = w; account = a }
@@ -70,10 +69,6 @@ alike-then d (Faulted i s) (Gives x t) k l h next grow = absurd h
 alike-then d (Faulted i s) (Faulted j t) k l h next grow = h
 alike-then d (Faulted i s) (Going t) k l h next grow = absurd h
 alike-then d (Going s) q k l h next grow = going-then d s q l grow h
-
--- a statement ends
-abbrev ends : State → Outcome (Option ℕ)
-ends s = Gives None (on_account ended s)
 
 -- calls are alike
 abbrev pub AreCallsAlike : ℕ → Caller → Caller → Type 0
@@ -142,32 +137,32 @@ module _ (d : ℕ) (o : ℤ) (sc : ℕ → Scope) (m n : Marking) (g h : Caller)
 
   -- ---- What follows the first part of an evaluation grows
 
-  by : {A : Type 0} (Q : A → Type 0) (next : State → Outcome A) (s : State) → ((w : World) → Calls (Extends w) (Extends w) AnyValue (extending w) e → Extends w s.world → Comes (Extends w) (Extends w) AnyValue (extending w) Q (next s)) → Grows s.world (next s)
+  by : {A : Type 0} (Q : A → Type 0) (next : State → Outcome A) (s : State) → ((w : World) → Calls Any (Extends w) (Extends w) AnyValue (extending w) e → Extends w s.world → Comes Any (Extends w) (Extends w) AnyValue (extending w) Q (next s)) → Grows s.world (next s)
   by Q next s comes = grows-by e grow Q next s comes
 
   grows-made : (i : ℕ) (u : Use) (f l : List ℕ → ℕ) (r : Prepared) (s : State) → Grows s.world (made e i u f l r s)
-  grows-made i u f l r s = by AnyValue (made e i u f l r) s (λ w q h. comes-made (Extends w) (Extends w) AnyValue (extending w) e i u f l r s (done-any (computed r)) h)
+  grows-made i u f l r s = by AnyValue (made e i u f l r) s (λ w q h. comes-made Any (Extends w) (Extends w) AnyValue (extending w) e i u f l r s (done-any (computed r)) h)
 
   grows-there : (i : ℕ) (u : Use) (v : Option Array) (s : State) → Grows s.world (there e i u v s)
-  grows-there i u v s = by AnyValue (there e i u v) s (λ w q h. comes-there (Extends w) (Extends w) AnyValue (extending w) e i u v s (some-any v) h)
+  grows-there i u v s = by AnyValue (there e i u v) s (λ w q h. comes-there Any (Extends w) (Extends w) AnyValue (extending w) e i u v s (some-any v) h)
 
   grows-dyad : (i : ℕ) (u : Use) (f : Primitive) (x : Tree) (y : Array) (s : State) → Grows s.world (and_then (value e x passed s) (λ v t. made e i u (places_listed o f v.shape) (dyad_applications o f v.shape y.shape) (dyad_of o f v y) t))
-  grows-dyad i u f x y s = by AnyValue (λ z. and_then (value e x passed z) (λ v t. made e i u (places_listed o f v.shape) (dyad_applications o f v.shape y.shape) (dyad_of o f v y) t)) s (λ w q h. comes-dyad (Extends w) (Extends w) AnyValue (extending w) e q i u f x (literals-any x) y s tt h)
+  grows-dyad i u f x y s = by AnyValue (λ z. and_then (value e x passed z) (λ v t. made e i u (places_listed o f v.shape) (dyad_applications o f v.shape y.shape) (dyad_of o f v y) t)) s (λ w q h. comes-dyad Any (Extends w) (Extends w) AnyValue (extending w) e q i u f x (literals-any x) y s tt h)
 
   grows-index : (i : ℕ) (u : Use) (x : Tree) (js : List (Option Array)) (s : State) → Grows s.world (and_then (value e x passed s) (λ v t. made e i u none_for none_for (indexed o v js) t))
-  grows-index i u x js s = by AnyValue (λ z. and_then (value e x passed z) (λ v t. made e i u none_for none_for (indexed o v js) t)) s (λ w q h. comes-index (Extends w) (Extends w) AnyValue (extending w) e q i u x (literals-any x) js s (each-any js) h)
+  grows-index i u x js s = by AnyValue (λ z. and_then (value e x passed z) (λ v t. made e i u none_for none_for (indexed o v js) t)) s (λ w q h. comes-index Any (Extends w) (Extends w) AnyValue (extending w) e q i u x (literals-any x) js s (each-any js) h)
 
   grows-assigned : (i : ℕ) (u : Use) (y : ℕ) (v : Array) (s : State) → Grows s.world (ready e i u (product v.shape) v (assigned (sc y) y v s))
-  grows-assigned i u y v s = by AnyValue (λ z. ready e i u (product v.shape) v (assigned (sc y) y v z)) s (λ w q h. comes-assigned (Extends w) (Extends w) AnyValue (extending w) e i u y v s tt h)
+  grows-assigned i u y v s = by AnyValue (λ z. ready e i u (product v.shape) v (assigned (sc y) y v z)) s (λ w q h. comes-assigned Any (Extends w) (Extends w) AnyValue (extending w) e i u y v s tt h)
 
   grows-change : (i : ℕ) (u : Use) (y : ℕ) (js : List (Option Array)) (v : Array) (x : Option Array) (s : State) → Grows s.world (change_there e i u y js v x s)
-  grows-change i u y js v x s = by AnyValue (change_there e i u y js v x) s (λ w q h. comes-change_there (Extends w) (Extends w) AnyValue (extending w) e i u y js v x s (each-any js) tt (some-any x) h)
+  grows-change i u y js v x s = by AnyValue (change_there e i u y js v x) s (λ w q h. comes-change_there Any (Extends w) (Extends w) AnyValue (extending w) e q i u y js v x s (each-any js) tt (some-any x) h)
 
   grows-assign-at : (i : ℕ) (u : Use) (y : ℕ) (xs : Trees) (v : Array) (s : State) → Grows s.world (and_then (values e xs s) (λ js t. change_there e i u y js v (value_of_name (sc y) y t.world) t))
-  grows-assign-at i u y xs v s = by AnyValue (λ z. and_then (values e xs z) (λ js t. change_there e i u y js v (value_of_name (sc y) y t.world) t)) s (λ w q h. comes-assign-at (Extends w) (Extends w) AnyValue (extending w) e q i u y xs (listed-any xs) v s tt h)
+  grows-assign-at i u y xs v s = by AnyValue (λ z. and_then (values e xs z) (λ js t. change_there e i u y js v (value_of_name (sc y) y t.world) t)) s (λ w q h. comes-assign-at Any (Extends w) (Extends w) AnyValue (extending w) e q i u y xs (listed-any xs) v s tt h)
 
   grows-put : (i : ℕ) (u : Use) (v : Array) (s : State) → Grows s.world (ready e i u 0 v (put v s))
-  grows-put i u v s = by AnyValue (λ z. ready e i u 0 v (put v z)) s (λ w q h. comes-put (Extends w) (Extends w) AnyValue (extending w) e i u v s tt h)
+  grows-put i u v s = by AnyValue (λ z. ready e i u 0 v (put v z)) s (λ w q h. comes-put Any (Extends w) (Extends w) AnyValue (extending w) e i u v s tt h)
 
   grows-called : (y : ℕ) (k l : Argument) (x z : Option Array) (s : State) → Grows s.world (called e y k l x z s)
   grows-called y k l x z s = grow (function_of (sc y)) x z _
@@ -176,10 +171,10 @@ module _ (d : ℕ) (o : ℤ) (sc : ℕ → Scope) (m n : Marking) (g h : Caller)
   grows-answer i u y k l x z s = grows-then s.world (called e y k l x z s) _ (grows-called y k l x z s) (λ r t. grows-there i u r t)
 
   grows-call-rest : (i : ℕ) (u : Use) (y : ℕ) (k l : Argument) (z : Option Array) (s : State) → Grows s.world (and_then (argument e k s) (λ x t. and_then (called e y k l x z t) (λ r v. there e i u r v)))
-  grows-call-rest i u y k l z s = by AnyValue (λ t. and_then (argument e k t) (λ x t. and_then (called e y k l x z t) (λ r v. there e i u r v))) s (λ w q h. comes-call (Extends w) (Extends w) AnyValue (extending w) e q i u y k l (argument-any k) z s (some-any z) h)
+  grows-call-rest i u y k l z s = by AnyValue (λ t. and_then (argument e k t) (λ x t. and_then (called e y k l x z t) (λ r v. there e i u r v))) s (λ w q h. comes-call Any (Extends w) (Extends w) AnyValue (extending w) e q i u y k l (argument-any k) z s (some-any z) h)
 
   grows-entry : (x : Tree) (vs : List (Option Array)) (s : State) → Grows s.world (and_then (value e x passed s) (λ v t. Gives (Some v ∷ vs) t))
-  grows-entry x vs s = by (OnEach AnyValue) (λ z. and_then (value e x passed z) (λ v t. Gives (Some v ∷ vs) t)) s (λ w q h. comes-entry (Extends w) (Extends w) AnyValue (extending w) e q x (literals-any x) vs s (each-any vs) h)
+  grows-entry x vs s = by (OnEach AnyValue) (λ z. and_then (value e x passed z) (λ v t. Gives (Some v ∷ vs) t)) s (λ w q h. comes-entry Any (Extends w) (Extends w) AnyValue (extending w) e q x (literals-any x) vs s (each-any vs) h)
 
   grows-end : (s : State) → Grows s.world (ends s)
   grows-end s = extends-same s.world
@@ -198,7 +193,7 @@ module _ (d : ℕ) (o : ℤ) (sc : ℕ → Scope) (m n : Marking) (g h : Caller)
   grows-answerless y k l x z s = grows-then s.world (called e y k l x z s) _ (grows-called y k l x z s) (λ r t. grows-worked t)
 
   grows-perform-rest : (y : ℕ) (k l : Argument) (z : Option Array) (s : State) → Grows s.world (and_then (argument e k s) (λ x t. and_then (called e y k l x z t) (λ r v. ends (on_world (worked 1) v))))
-  grows-perform-rest y k l z s = by Anything (λ t. and_then (argument e k t) (λ x t. and_then (called e y k l x z t) (λ r v. ends (on_world (worked 1) v)))) s (λ w q h. comes-perform (Extends w) (Extends w) AnyValue (extending w) e q y k l (argument-any k) z s (some-any z) h)
+  grows-perform-rest y k l z s = by Any (λ t. and_then (argument e k t) (λ x t. and_then (called e y k l x z t) (λ r v. ends (on_world (worked 1) v)))) s (λ w q h. comes-perform Any (Extends w) (Extends w) AnyValue (extending w) e q y k l (argument-any k) z s (some-any z) h)
 
   -- ---- Trees
 
@@ -271,9 +266,9 @@ AreRunsAlike d r q = (f : Routine) (l : ℕ) (w : World) (a b : Account) → Are
 
 alike-call : (d : ℕ) (r q : Runner) → AreRunsAlike d r q → (f : Option Routine) (x y : Option Array) (w : World) (a b : Account) → AreAlike d (call_routine r f x y (st w a)) (call_routine q f x y (st (later d w) b))
 alike-call d r q same None x y w a b = (refl, refl)
-alike-call d r q same (Some f) x y w a b = by_depth (nat_lt (length w.places) 4096) refl
+alike-call d r q same (Some f) x y w a b = by_depth (nat_lt (depth w.places) 4096) refl
   where
-    by_depth : (t : Bool) → nat_lt (length w.places) 4096 ≡ t → AreAlike d (call_routine r (Some f) x y (st w a)) (call_routine q (Some f) x y (st (later d w) b))
+    by_depth : (t : Bool) → nat_lt (depth w.places) 4096 ≡ t → AreAlike d (call_routine r (Some f) x y (st w a)) (call_routine q (Some f) x y (st (later d w) b))
     by_depth true is = rw is (alike-then d _ _ _ _ (same f 1 _ _ _) (λ v w1 a1 b1. (refl, refl)) (λ v t. back-extends f (st (later d w) b) t))
     by_depth false is = rw is (refl, refl)
 
@@ -297,18 +292,13 @@ alike-run d p m n (suc k) f l w a b = alike-line d p m n (run p m k) (run p n (p
 
 -- ---- Whole runs
 
-unstarted-alike : (d : ℕ) (input : List ℕ) (k : ℕ) → GoesOn {A = Option Array} d (unstarted input k) (Going (unstarted input (plus k d)))
-unstarted-alike zero input k = refl
-unstarted-alike (suc d) input k = record { output = same-list []; marks = same-list []; given = same-list [] }
-
 -- with more lines and another marking
-alike-main : (d : ℕ) (p : PlainProgram) (m n : Marking) (input : List ℕ) (k : ℕ) (f : Option Routine) → AreAlike d (run_main p m input k f) (run_main p n input (k + d) f)
-alike-main d p m n input k f = subst (λ j. AreAlike d (run_main p m input k f) (run_main p n input j f)) (plus-is k d) (with-more f)
+alike-main : (d : ℕ) (p : PlainProgram) (m n : Marking) (input : List ℕ) (k : ℕ) (f : Routine) → AreAlike d (run_main p m input k f) (run_main p n input (k + d) f)
+alike-main d p m n input k f = subst (λ j. AreAlike d (run_main p m input k f) (run_main p n input j f)) (plus-is k d) with-more
   where
-    with-more : (f : Option Routine) → AreAlike d (run_main p m input k f) (run_main p n input (plus k d) f)
-    with-more None = unstarted-alike d input k
-    with-more (Some f) =
-        subst (λ (j : ℕ). AreAlike d (run p m (k + 1) f 1 (entered f None None (unstarted input k))) (run p n j f 1 (entered f None None (unstarted input (plus k d))))) (omega (arith, plus-is (k + 1) d, plus-is k d))
+    with-more : AreAlike d (run_main p m input k f) (run_main p n input (plus k d) f)
+    with-more =
+        subst (λ (j : ℕ). AreAlike d (run p m (k + 1) f 1 (initial f input k)) (run p n j f 1 (initial f input (plus k d)))) (omega (arith, plus-is (k + 1) d, plus-is k d))
         (alike-run d p m n (k + 1) f 1 _ _ _)
 
 no-more : (w : World) → later 0 w ≡ w

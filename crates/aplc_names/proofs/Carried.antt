@@ -1,14 +1,14 @@
 -- What each step of an evaluation keeps holds after all of it: one induction over trees and statements.
-use Rattle.std.proofs.Common.{◌≡◌, ℕ, ◌+◌, List, [], ◌∷◌, ◌++◌, length, Option, Some, None, refl, sym, subst}
-use Rattle.std.specs.Prelude.{ℤ, pos, map, chars, Result, Ok, Err}
+use Rattle.std.proofs.Common.{◌≡◌, ℕ, List, [], ◌∷◌, ◌++◌, Option, Some, None, refl}
+use Rattle.std.specs.Prelude.{ℤ, pos, map, Result, Ok, Err, IfOk}
 use Rattle.aplc_scalar.specs.declared.kind.FaultKind.{FaultKind}
 use Rattle.aplc_scalar.specs.declared.kind.Kind.{Kind}
 use Rattle.aplc_scalar.specs.declared.kind.Kind.TheVariants.{Num, Char}
-use Rattle.aplc_scalar.specs.Input.{InputLine, Line, Unread, input_line, number_line, line_text}
+use Rattle.aplc_scalar.specs.Input.{InputLine, Line, Unread, input_line, number_line}
 use Rattle.aplc_arr.specs.Arrays.{Array, product}
 use Rattle.aplc_arr.specs.Delayed.{Delayed, Prepared, cells_of, with_cells, computed}
-use Rattle.aplc_arr.specs.Indexing.{indexed, changed, joined_shape}
-use Rattle.aplc_arr.specs.Display.{characters, shown}
+use Rattle.aplc_arr.specs.Indexing.{indexed, changed}
+use Rattle.aplc_arr.specs.Display.{shown}
 use Rattle.aplc_syntax.specs.declared.tree.Primitive.{Primitive}
 use Rattle.aplc_syntax.specs.PlainTrees.{Tree, Numbers, Text, Name, TextInput, NumsInput, Mono, Dyad, Index, Assign, AssignAt, Show, Call, Trees, no_more, left_out, and_tree, Argument, absent, given}
 use Rattle.aplc_names.specs.declared.scope.Scope.{Scope}
@@ -29,8 +29,7 @@ OnEach V [] = Unit {0}
 OnEach V (x ∷ xs) = OnSome V x × OnEach V xs
 
 abbrev pub OnDone : (Array → Type 0) → Result Array FaultKind → Type 0
-OnDone V (Ok v) = V v
-OnDone V (Err k) = Unit {0}
+OnDone V r = IfOk r V
 
 -- what the lines of an input give
 abbrev pub OnLine : (Array → Type 0) → Kind → InputLine → Type 0
@@ -71,8 +70,8 @@ OnAction V (branch p t) = OnLiterals V t
 
 -- ---- Steps
 
--- P holds of the world after each step if before, and the values that come up meet V
-pub record Keeps (P : World → Type 0) (V : Array → Type 0) : Type 0 where
+-- P holds of the world after each step if before, and the values that come up meet V, where the index origin meets O
+pub record Keeps (O : ℤ → Type 0) (P : World → Type 0) (V : Array → Type 0) : Type 0 where
   pub noting : (i n : ℕ) (v : Array) (w : World) → V v → P w → P (noted i v (worked n w))
   pub working : (n : ℕ) (w : World) → P w → P (worked n w)
   pub reading : (rest : List ℕ) (w : World) → P w → P (record w { input = rest })
@@ -82,12 +81,20 @@ pub record Keeps (P : World → Type 0) (V : Array → Type 0) : Type 0 where
   pub locals : (n : ℕ) (w : World) → P w → OnSome V (w.locals n)
   pub text_lines : (w : World) → OnLine V Char (input_line w.input)
   pub number_lines : (w : World) → OnLine V Num (number_line w.input)
-  pub monos : (o : ℤ) (f : Primitive) (y : Array) → V y → OnDone V (computed (mono_of o f y))
-  pub dyads : (o : ℤ) (f : Primitive) (x y : Array) → V x → V y → OnDone V (computed (dyad_of o f x y))
-  pub indices : (o : ℤ) (x : Array) (js : List (Option Array)) → V x → OnEach V js → OnDone V (computed (indexed o x js))
-  pub changes : (o : ℤ) (x : Array) (js : List (Option Array)) (v : Array) → V x → OnEach V js → V v → OnDone V (changed o x js v)
+  pub monos : (o : ℤ) (f : Primitive) (y : Array) → O o → V y → OnDone V (computed (mono_of o f y))
+  pub dyads : (o : ℤ) (f : Primitive) (x y : Array) → O o → V x → V y → OnDone V (computed (dyad_of o f x y))
+  pub indices : (o : ℤ) (x : Array) (js : List (Option Array)) → O o → V x → OnEach V js → OnDone V (computed (indexed o x js))
+  pub changes : (o : ℤ) (x : Array) (js : List (Option Array)) (v : Array) → O o → V x → OnEach V js → V v → OnDone V (changed o x js v)
 
-module _ (P W : World → Type 0) (V : Array → Type 0) (keeps : Keeps P V) where
+-- a statement ends, and the next line follows
+abbrev pub ends : State → Outcome (Option ℕ)
+ends s = Gives None (on_account ended s)
+
+-- everything will do
+abbrev pub Any : {A : Type 0} → A → Type 0
+Any v = Unit {0}
+
+module _ (O : ℤ → Type 0) (P W : World → Type 0) (V : Array → Type 0) (keeps : Keeps O P V) where
   -- P holds where it gives something, which meets Q, or faults; W where it goes on
   abbrev pub Comes : {A : Type 0} → (A → Type 0) → Outcome A → Type 0
   Comes Q (Gives v s) = Q v × P s.world
@@ -99,8 +106,9 @@ module _ (P W : World → Type 0) (V : Array → Type 0) (keeps : Keeps P V) whe
   comes-then Q R (Faulted k t) next h q = h
   comes-then Q R (Going t) next h q = h
 
-  -- calls keep it too, and the labels of the function meet V
+  -- calls keep it too, the labels of the function meet V, and the origin O
   pub record Calls (c : Context) : Type 0 where
+    pub origin : O c.origin
     pub calls : (j : ℕ) (x y : Option Array) (s : State) → OnSome V x → OnSome V y → P s.world → Comes (OnSome V) (c.call j x y s)
     pub labels : (n : ℕ) (z : ℤ) → c.scope n ≡ scope.Label z → V (scalar z)
 
@@ -137,9 +145,9 @@ module _ (P W : World → Type 0) (V : Array → Type 0) (keeps : Keeps P V) whe
   comes-change c i u n js v old (Err k) s good new h = h
   comes-change c i u n js v old (Ok a) s good new h = (good, keeps.noting i _ v _ good (keeps.naming (c.scope n) n a s.world new h))
 
-  pub comes-change_there : (c : Context) (i : ℕ) (u : Use) (n : ℕ) (js : List (Option Array)) (v : Array) (x : Option Array) (s : State) → OnEach V js → V v → OnSome V x → P s.world → Comes V (change_there c i u n js v x s)
-  comes-change_there c i u n js v None s each good known h = h
-  comes-change_there c i u n js v (Some old) s each good known h = comes-change c i u n js v old (changed c.origin old js v) s good (keeps.changes c.origin old js v known each good) h
+  pub comes-change_there : (c : Context) → Calls c → (i : ℕ) (u : Use) (n : ℕ) (js : List (Option Array)) (v : Array) (x : Option Array) (s : State) → OnEach V js → V v → OnSome V x → P s.world → Comes V (change_there c i u n js v x s)
+  comes-change_there c calls i u n js v None s each good known h = h
+  comes-change_there c calls i u n js v (Some old) s each good known h = comes-change c i u n js v old (changed c.origin old js v) s good (keeps.changes c.origin old js v calls.origin known each good) h
 
   pub comes-assigned : (c : Context) (i : ℕ) (u : Use) (n : ℕ) (v : Array) (s : State) → V v → P s.world → Comes V (ready c i u (product v.shape) v (assigned (c.scope n) n v s))
   comes-assigned c i u n v s good h = (good, keeps.noting i _ v _ good (keeps.naming (c.scope n) n v s.world good h))
@@ -164,15 +172,15 @@ module _ (P W : World → Type 0) (V : Array → Type 0) (keeps : Keeps P V) whe
     comes-value c calls (TextInput i p) l u s h = comes-read c i u Char (input_line s.world.input) s (keeps.text_lines s.world) h
     comes-value c calls (NumsInput i p) l u s h = comes-read c i u Num (number_line s.world.input) s (keeps.number_lines s.world) h
     comes-value c calls (Mono i p f b) l u s h =
-        comes-then V V (value c b passed s) _ (comes-value c calls b l passed s h) (λ y t good q. comes-made c i u _ _ (mono_of c.origin f y) t (keeps.monos c.origin f y good) q)
+        comes-then V V (value c b passed s) _ (comes-value c calls b l passed s h) (λ y t good q. comes-made c i u _ _ (mono_of c.origin f y) t (keeps.monos c.origin f y calls.origin good) q)
     comes-value c calls (Dyad i p f a b) l u s h =
-        comes-then V V (value c b passed s) _ (comes-value c calls b l.1 passed s h) (λ y t good q. comes-then V V (value c a passed t) _ (comes-value c calls a l.0 passed t q) (λ x z well r. comes-made c i u _ _ (dyad_of c.origin f x y) z (keeps.dyads c.origin f x y well good) r))
+        comes-then V V (value c b passed s) _ (comes-value c calls b l.1 passed s h) (λ y t good q. comes-then V V (value c a passed t) _ (comes-value c calls a l.0 passed t q) (λ x z well r. comes-made c i u _ _ (dyad_of c.origin f x y) z (keeps.dyads c.origin f x y calls.origin well good) r))
     comes-value c calls (Index i p a xs) l u s h =
-        comes-then (OnEach V) V (values c xs s) _ (comes-values c calls xs l.1 s h) (λ js t each q. comes-then V V (value c a passed t) _ (comes-value c calls a l.0 passed t q) (λ x z good r. comes-made c i u _ _ (indexed c.origin x js) z (keeps.indices c.origin x js good each) r))
+        comes-then (OnEach V) V (values c xs s) _ (comes-values c calls xs l.1 s h) (λ js t each q. comes-then V V (value c a passed t) _ (comes-value c calls a l.0 passed t q) (λ x z good r. comes-made c i u _ _ (indexed c.origin x js) z (keeps.indices c.origin x js calls.origin good each) r))
     comes-value c calls (Assign i p n a) l u s h =
         comes-then V V (value c a stored s) _ (comes-value c calls a l stored s h) (λ v t good q. comes-assigned c i u n v t good q)
     comes-value c calls (AssignAt i p n xs a) l u s h =
-        comes-then V V (value c a passed s) _ (comes-value c calls a l.1 passed s h) (λ v t good q. comes-then (OnEach V) V (values c xs t) _ (comes-values c calls xs l.0 t q) (λ js z each r. comes-change_there c i u n js v _ z each good (name-known c calls n z.world r) r))
+        comes-then V V (value c a passed s) _ (comes-value c calls a l.1 passed s h) (λ v t good q. comes-then (OnEach V) V (values c xs t) _ (comes-values c calls xs l.0 t q) (λ js z each r. comes-change_there c calls i u n js v _ z each good (name-known c calls n z.world r) r))
     comes-value c calls (Show i p a) l u s h =
         comes-then V V (value c a displayed s) _ (comes-value c calls a l displayed s h) (λ v t good q. comes-put c i u v t good q)
     comes-value c calls (Call i p n a b) l u s h =
@@ -193,17 +201,17 @@ module _ (P W : World → Type 0) (V : Array → Type 0) (keeps : Keeps P V) whe
   -- what follows the right argument
   pub comes-dyad : (c : Context) → Calls c → (i : ℕ) (u : Use) (f : Primitive) (a : Tree) → OnLiterals V a → (y : Array) (s : State) → V y → P s.world → Comes V (and_then (value c a passed s) (λ x t. made c i u (places_listed c.origin f x.shape) (dyad_applications c.origin f x.shape y.shape) (dyad_of c.origin f x y) t))
   comes-dyad c calls i u f a l y s good h =
-      comes-then V V (value c a passed s) _ (comes-value c calls a l passed s h) (λ x t well q. comes-made c i u _ _ (dyad_of c.origin f x y) t (keeps.dyads c.origin f x y well good) q)
+      comes-then V V (value c a passed s) _ (comes-value c calls a l passed s h) (λ x t well q. comes-made c i u _ _ (dyad_of c.origin f x y) t (keeps.dyads c.origin f x y calls.origin well good) q)
 
   -- what follows the index list
   pub comes-index : (c : Context) → Calls c → (i : ℕ) (u : Use) (a : Tree) → OnLiterals V a → (js : List (Option Array)) (s : State) → OnEach V js → P s.world → Comes V (and_then (value c a passed s) (λ x t. made c i u none_for none_for (indexed c.origin x js) t))
   comes-index c calls i u a l js s each h =
-      comes-then V V (value c a passed s) _ (comes-value c calls a l passed s h) (λ x t good q. comes-made c i u _ _ (indexed c.origin x js) t (keeps.indices c.origin x js good each) q)
+      comes-then V V (value c a passed s) _ (comes-value c calls a l passed s h) (λ x t good q. comes-made c i u _ _ (indexed c.origin x js) t (keeps.indices c.origin x js calls.origin good each) q)
 
   -- what follows the value of an indexed assignment
   pub comes-assign-at : (c : Context) → Calls c → (i : ℕ) (u : Use) (n : ℕ) (xs : Trees) → OnListed V xs → (v : Array) (s : State) → V v → P s.world → Comes V (and_then (values c xs s) (λ js t. change_there c i u n js v (value_of_name (c.scope n) n t.world) t))
   comes-assign-at c calls i u n xs l v s good h =
-      comes-then (OnEach V) V (values c xs s) _ (comes-values c calls xs l s h) (λ js t each q. comes-change_there c i u n js v _ t each good (name-known c calls n t.world q) q)
+      comes-then (OnEach V) V (values c xs s) _ (comes-values c calls xs l s h) (λ js t each q. comes-change_there c calls i u n js v _ t each good (name-known c calls n t.world q) q)
 
   -- what follows the right argument of a call
   pub comes-call : (c : Context) → Calls c → (i : ℕ) (u : Use) (n : ℕ) (a b : Argument) → OnArgument V a → (y : Option Array) (s : State) → OnSome V y → P s.world → Comes V (and_then (argument c a s) (λ x t. and_then (called c n a b x y t) (λ r z. there c i u r z)))
@@ -215,15 +223,12 @@ module _ (P W : World → Type 0) (V : Array → Type 0) (keeps : Keeps P V) whe
 
   -- ---- Statements
 
-  abbrev pub Any : Option ℕ → Type 0
-  Any to = Unit {0}
-
   pub comes-branched : (r : Result (Option ℕ) FaultKind) (s : State) → P s.world → Comes Any (branched r s)
   comes-branched (Ok to) s h = (tt, h)
   comes-branched (Err k) s h = h
 
   -- what follows the right argument of a call without a result
-  pub comes-perform : (c : Context) → Calls c → (n : ℕ) (a b : Argument) → OnArgument V a → (y : Option Array) (s : State) → OnSome V y → P s.world → Comes Any (and_then (argument c a s) (λ x t. and_then (called c n a b x y t) (λ r z. Gives None (on_account ended (on_world (worked 1) z)))))
+  pub comes-perform : (c : Context) → Calls c → (n : ℕ) (a b : Argument) → OnArgument V a → (y : Option Array) (s : State) → OnSome V y → P s.world → Comes Any (and_then (argument c a s) (λ x t. and_then (called c n a b x y t) (λ r z. ends (on_world (worked 1) z))))
   comes-perform c calls n a b l y s good h =
       comes-then (OnSome V) Any (argument c a s) _ (comes-argument c calls a l s h) (λ x t well q. comes-then (OnSome V) Any (called c n a b x y t) _ (comes-called c calls n a b x y t well good q) (λ r z is z_holds. (tt, keeps.working 1 z.world z_holds)))
 

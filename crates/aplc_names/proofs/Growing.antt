@@ -1,26 +1,25 @@
 -- Output, marks and what nodes were given only grow in an evaluation.
-use Rattle.std.proofs.Common.{◌≡◌, ℕ, zero, suc, ◌+◌, List, [], ◌∷◌, ◌++◌, length, Option, Some, None, refl, sym, ap, ◌∙◌, subst, append_assoc, append-nil, Bool, true, false}
-use Rattle.std.specs.Prelude.{ℤ, Result, Ok, Err, slice_get, nat_lt, if◌then◌else◌}
+use Rattle.std.proofs.Common.{ℕ, zero, suc, List, [], ◌∷◌, ◌++◌, Option, Some, None, refl, sym, ap, ◌∙◌, subst, append_assoc, append-nil, Bool, true, false}
+use Rattle.std.specs.Prelude.{Result, Ok, Err, slice_get, nat_lt, if◌then◌else◌}
 use Rattle.aplc_scalar.specs.declared.kind.FaultKind.{FaultKind}
 use Rattle.aplc_scalar.specs.declared.kind.FaultKind.TheVariants as fault
 use Rattle.aplc_scalar.specs.declared.kind.Kind.{Kind}
 use Rattle.aplc_scalar.specs.declared.kind.Kind.TheVariants.{Num, Char}
 use Rattle.aplc_scalar.specs.Input.{InputLine, Line, Unread, input_line, number_line}
-use Rattle.aplc_arr.specs.Arrays.{Array, product}
-use Rattle.aplc_arr.specs.Delayed.{Delayed, Prepared, cells_of, with_cells, computed}
+use Rattle.aplc_arr.specs.Arrays.{Array}
+use Rattle.aplc_arr.specs.Delayed.{computed}
 use Rattle.aplc_arr.specs.Indexing.{indexed, changed}
 use Rattle.aplc_arr.specs.Display.{shown}
-use Rattle.aplc_syntax.specs.declared.tree.Primitive.{Primitive}
 use Rattle.aplc_syntax.specs.PlainTrees.{Tree, Numbers, Text, Name, TextInput, NumsInput, Mono, Dyad, Index, Assign, AssignAt, Show, Call, Trees, no_more, left_out, and_tree, Argument, absent, given}
 use Rattle.aplc_names.specs.declared.scope.Scope.{Scope}
 use Rattle.aplc_names.specs.declared.scope.Scope.TheVariants as scope
-use Rattle.aplc_names.specs.PlainPrograms.{Action, nothing, quiet, perform, display, branch, Routine, PlainProgram, main_routine}
+use Rattle.aplc_names.specs.PlainPrograms.{Action, nothing, quiet, perform, display, branch, Routine, PlainProgram}
 use Rattle.aplc_names.specs.Primitives.{mono_of, dyad_of}
-use Rattle.aplc_names.specs.States.{Place, Giving, World, Account, State, Marking, Outcome, Gives, Faulted, Going, and_then, final, on_world, on_account, worked, ended}
-use Rattle.aplc_names.specs.Eager.{Caller, Context, Use, passed, stored, displayed, noted, ready, filled, made, value_of_name, there, read_line, with_value, assigned, put, change, change_there, function_of, called, value, values, argument, branch_to, branched, statement}
-use Rattle.aplc_names.specs.Runs.{Runner, entered, back, call_routine, caller, line_at, started, from_line, context, run, run_main}
+use Rattle.aplc_names.specs.States.{depth, World, State, Marking, Outcome, Gives, Faulted, Going, and_then, final, on_world}
+use Rattle.aplc_names.specs.Eager.{Caller, Context, with_value, statement}
+use Rattle.aplc_names.specs.Runs.{Runner, entered, back, call_routine, line_at, started, from_line, context, run}
 use Rattle.aplc_names.specs.RunLaws.{IsPrefix}
-use Rattle.aplc_names.proofs.Carried.{OnSome, OnEach, OnDone, OnLine, OnLiterals, OnListed, OnArgument, OnAction, Keeps, Comes, Calls, comes-then, comes-made, comes-there, comes-dyad, comes-index, comes-assign-at, comes-call, comes-perform, comes-entry, comes-branched, comes-statement, comes-change_there}
+use Rattle.aplc_names.proofs.Carried.{OnSome, OnEach, OnDone, OnLine, OnLiterals, OnListed, OnArgument, OnAction, Any, Keeps, Comes, Calls, comes-statement}
 
 pub record Extends (v w : World) : Type 0 where
   pub output : IsPrefix v.output w.output
@@ -35,10 +34,6 @@ longer xs ys more h = (h.0 ++ more, ap (λ l. l ++ more) h.1 ∙ append_assoc xs
 
 pub extends-same : (w : World) → Extends w w
 extends-same w = record { output = same-list w.output; marks = same-list w.marks; given = same-list w.given }
-
--- everything will do
-abbrev pub Anything : {A : Type 0} → A → Type 0
-Anything v = Unit {0}
 
 abbrev pub AnyValue : Array → Type 0
 AnyValue v = Unit {0}
@@ -97,7 +92,7 @@ named-extends v (scope.Label z) n a w h = record { output = h.output; marks = h.
 named-extends v (scope.Function j) n a w h = record { output = h.output; marks = h.marks; given = h.given }
 
 -- each step extends the world where an evaluation began
-pub extending : (v : World) → Keeps (Extends v) AnyValue
+pub extending : (v : World) → Keeps Any (Extends v) AnyValue
 extending v = record {
   noting = λ i n a w good h. record { output = h.output; marks = h.marks; given = longer v.given w.given _ h.given };
   working = λ n w h. record { output = h.output; marks = h.marks; given = h.given };
@@ -108,22 +103,22 @@ extending v = record {
   locals = λ n w h. some-any (w.locals n);
   text_lines = λ w. line-any Char (input_line w.input);
   number_lines = λ w. line-any Num (number_line w.input);
-  monos = λ o f y good. done-any (computed (mono_of o f y));
-  dyads = λ o f x y good well. done-any (computed (dyad_of o f x y));
-  indices = λ o x js good each. done-any (computed (indexed o x js));
-  changes = λ o x js a good each well. done-any (changed o x js a);
+  monos = λ o f y origin good. done-any (computed (mono_of o f y));
+  dyads = λ o f x y origin good well. done-any (computed (dyad_of o f x y));
+  indices = λ o x js origin good each. done-any (computed (indexed o x js));
+  changes = λ o x js a origin good each well. done-any (changed o x js a);
 }
 
 -- what an evaluation from a world comes to extends it
 abbrev pub Grows : {A : Type 0} → World → Outcome A → Type 0
 Grows w o = Extends w (final o).world
 
-grown : {A : Type 0} (Q : A → Type 0) (w : World) (o : Outcome A) → Comes (Extends w) (Extends w) AnyValue (extending w) Q o → Grows w o
+grown : {A : Type 0} (Q : A → Type 0) (w : World) (o : Outcome A) → Comes Any (Extends w) (Extends w) AnyValue (extending w) Q o → Grows w o
 grown Q w (Gives v s) h = h.1
 grown Q w (Faulted k s) h = h
 grown Q w (Going s) h = h
 
-from-grown : {A : Type 0} (Q : A → Type 0) (w : World) (o : Outcome A) → ((v : A) → Q v) → Grows w o → Comes (Extends w) (Extends w) AnyValue (extending w) Q o
+from-grown : {A : Type 0} (Q : A → Type 0) (w : World) (o : Outcome A) → ((v : A) → Q v) → Grows w o → Comes Any (Extends w) (Extends w) AnyValue (extending w) Q o
 from-grown Q w (Gives v s) all h = (all v, h)
 from-grown Q w (Faulted k s) all h = h
 from-grown Q w (Going s) all h = h
@@ -139,8 +134,9 @@ extends-then u v w h q = record {
 abbrev pub GrowsCalls : Caller → Type 0
 GrowsCalls g = (j : ℕ) (x y : Option Array) (s : State) → Grows s.world (g j x y s)
 
-calls-grow : (w : World) (c : Context) → GrowsCalls c.call → Calls (Extends w) (Extends w) AnyValue (extending w) c
+calls-grow : (w : World) (c : Context) → GrowsCalls c.call → Calls Any (Extends w) (Extends w) AnyValue (extending w) c
 calls-grow w c grow = record {
+  origin = tt;
   calls = λ j x y s good well h. from-grown (OnSome AnyValue) w (c.call j x y s) some-any (extends-then w s.world _ h (grow j x y s));
   labels = λ n z e. tt;
 }
@@ -153,7 +149,7 @@ grows-then w (Going t) next h q = h
 grows-statement : (c : Context) → GrowsCalls c.call → (x : Action) (s : State) → Grows s.world (statement c x s)
 grows-statement c grow x s =
     let w = s.world in
-    grown _ w (statement c x s) (comes-statement (Extends w) (Extends w) AnyValue (extending w) c (calls-grow w c grow) x (action-any x) s (extends-same w))
+    grown _ w (statement c x s) (comes-statement Any (Extends w) (Extends w) AnyValue (extending w) c (calls-grow w c grow) x (action-any x) s (extends-same w))
 
 -- ---- Runs grow
 
@@ -168,7 +164,7 @@ back-extends f s t = record { output = same-list t.world.output; marks = same-li
 
 pub grows-call : (r : Runner) → GrowsRuns r → (o : Option Routine) (x y : Option Array) (s : State) → Grows s.world (call_routine r o x y s)
 grows-call r runs None x y s = extends-same s.world
-grows-call r runs (Some f) x y s = by_depth (nat_lt (length s.world.places) 4096)
+grows-call r runs (Some f) x y s = by_depth (nat_lt (depth s.world.places) 4096)
   where
     by_depth : (b : Bool) → Grows s.world (if b then and_then (r f 1 (entered f x y s)) (λ v t. Gives v (back f s t)) else Faulted fault.Limit s)
     by_depth true = grows-then s.world (r f 1 (entered f x y s)) _ (extends-then s.world (entered f x y s).world _ (entered-extends f x y s) (runs f 1 (entered f x y s))) (λ v t. back-extends f s t)
@@ -192,5 +188,5 @@ grows-run p m (suc k) f l s = grows-line p m (run p m k) (grows-run p m k) f l (
 
 module _ (c : Context) (grow : GrowsCalls c.call) where
   -- where it keeps extending, it extends
-  pub grows-by : {A : Type 0} (Q : A → Type 0) (next : State → Outcome A) (s : State) → ((w : World) → Calls (Extends w) (Extends w) AnyValue (extending w) c → Extends w s.world → Comes (Extends w) (Extends w) AnyValue (extending w) Q (next s)) → Grows s.world (next s)
+  pub grows-by : {A : Type 0} (Q : A → Type 0) (next : State → Outcome A) (s : State) → ((w : World) → Calls Any (Extends w) (Extends w) AnyValue (extending w) c → Extends w s.world → Comes Any (Extends w) (Extends w) AnyValue (extending w) Q (next s)) → Grows s.world (next s)
   grows-by Q next s comes = let w = s.world in grown Q w (next s) (comes w (calls-grow w c grow) (extends-same w))

@@ -19,6 +19,10 @@ pub mod Carried
 pub mod Growing
 pub mod Alike
 pub mod Spending
+pub mod GivenArrays
+pub mod Balancing
+pub mod AssignedNames
+pub mod SumsRun
 pub mod RunExamples
 mod AccountExamples
 pub mod Scoped

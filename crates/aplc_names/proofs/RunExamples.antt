@@ -12,9 +12,9 @@ use Rattle.aplc_syntax.specs.declared.tree.Axis.TheVariants as ax
 use Rattle.aplc_syntax.specs.PlainTrees.{Tree, Numbers, Text, Name, TextInput, NumsInput, Mono, Dyad, Index, Assign, AssignAt, Show, Call, no_more, and_tree, absent, given}
 use Rattle.aplc_names.specs.declared.scope.Scope.{Scope}
 use Rattle.aplc_names.specs.declared.scope.Scope.TheVariants as scope
-use Rattle.aplc_names.specs.PlainPrograms.{Action, nothing, quiet, perform, display, branch, Routine, PlainProgram}
-use Rattle.aplc_names.specs.States.{Place, Marking}
-use Rattle.aplc_names.specs.Runs.{Run, Ended, Faulted, Going, eager, work}
+use Rattle.aplc_names.specs.PlainPrograms.{Action, nothing, quiet, perform, display, branch, Routine, PlainProgram, most_nodes}
+use Rattle.aplc_names.specs.States.{Place, Places, Marking}
+use Rattle.aplc_names.specs.Runs.{Ended, Faulted, Going, eager, work}
 
 -- ---- Writing programs
 
@@ -47,6 +47,13 @@ number i n = Numbers i i (pos n ∷ [])
 abbrev pub at : List ℕ → ℕ → Place
 at t l = record { function = t; line = l }
 
+abbrev pub places : Place → List Place → Places
+places q qs = record { here = q; behind = qs }
+
+-- one frame, that of MAIN
+abbrev pub alone : ℕ → Places
+alone l = places (at (codes "MAIN") l) []
+
 -- lines of MAIN
 abbrev pub lines : List ℕ → List Place
 lines ls = map (at (codes "MAIN")) ls
@@ -71,14 +78,28 @@ calling_work : work calling unmarked [] 9 ≡ 23
 unfolding work calling in_range digits encode
 calling_work = refl
 
+-- the assignment in MAIN has three nodes, that in F has four
+calling_nodes : most_nodes calling ≡ 4
+unfolding calling
+calling_nodes = refl
+
+-- without a node it is 1
+empty_nodes : most_nodes (program (main [] (nothing ∷ []) ∷ [])) ≡ 1
+empty_nodes = refl
+
+-- the same functions, and none where the program starts
+unstarted_run : eager (record calling { start = None }) unmarked [] 9 ≡ Ended [] []
+unfolding eager calling
+unstarted_run = refl
+
 -- ---- LIMIT in a function that is called: the same behind an empty line, with the greatest number
 
-failing : PlainProgram
+unfoldable pub failing : PlainProgram
 failing =
     program (main ((3, scope.Function 1) ∷ []) (nothing ∷ quiet (Assign 11 11 0 (Call 12 12 3 absent (given (number 13 9223372036854775807)))) ∷ []) ∷ double ∷ [])
 
 -- the empty line has no mark
-failing_run : eager failing unmarked [] 9 ≡ Faulted [] (at (codes "MAIN") 2 ∷ at (codes "F") 1 ∷ []) fault.Limit (at (codes "F") 1 ∷ at (codes "MAIN") 2 ∷ [])
+failing_run : eager failing unmarked [] 9 ≡ Faulted [] (at (codes "MAIN") 2 ∷ at (codes "F") 1 ∷ []) fault.Limit (places (at (codes "F") 1) (at (codes "MAIN") 2 ∷ []))
 unfolding eager failing in_range digits encode
 failing_run = refl
 
@@ -107,7 +128,7 @@ indexing_run = refl
 unset_name : PlainProgram
 unset_name = program (main [] (display (Name 1 1 0) ∷ []) ∷ [])
 
-unset_name_run : eager unset_name unmarked [] 9 ≡ Faulted [] (lines (1 ∷ [])) fault.Value (lines (1 ∷ []))
+unset_name_run : eager unset_name unmarked [] 9 ≡ Faulted [] (lines (1 ∷ [])) fault.Value (alone 1)
 unfolding eager unset_name
 unset_name_run = refl
 
@@ -117,7 +138,7 @@ unset_result : PlainProgram
 unset_result =
     program (main ((3, scope.Function 1) ∷ []) (display (Dyad 1 1 (pr.Scalar f.Add) (Show 2 2 (number 3 1)) (Call 4 4 3 absent absent)) ∷ []) ∷ routine (codes "F") (Some 2) None None [] ((2, scope.Local) ∷ []) (nothing ∷ []) ∷ [])
 
-unset_result_run : eager unset_result unmarked [] 9 ≡ Faulted [] (lines (1 ∷ [])) fault.Value (lines (1 ∷ []))
+unset_result_run : eager unset_result unmarked [] 9 ≡ Faulted [] (lines (1 ∷ [])) fault.Value (alone 1)
 unfolding eager unset_result
 unset_result_run = refl
 
@@ -127,7 +148,7 @@ letters : PlainProgram
 letters =
     program (main [] (quiet (Assign 1 1 0 (Text 2 2 (codes "HELLO"))) ∷ display (Index 3 3 (Name 4 4 0) (and_tree (Numbers 5 5 (pos 5 ∷ pos 1 ∷ [])) no_more)) ∷ display (Index 6 6 (Name 7 7 0) (and_tree (Numbers 8 8 (pos 5 ∷ pos 1 ∷ pos 9 ∷ [])) no_more)) ∷ []) ∷ [])
 
-letters_run : eager letters unmarked [] 9 ≡ Faulted (codes "OH" ++ 10 ∷ []) (lines (1 ∷ 2 ∷ 3 ∷ [])) fault.Index (lines (3 ∷ []))
+letters_run : eager letters unmarked [] 9 ≡ Faulted (codes "OH" ++ 10 ∷ []) (lines (1 ∷ 2 ∷ 3 ∷ [])) fault.Index (alone 3)
 unfolding eager letters encode
 letters_run = refl
 
@@ -137,14 +158,14 @@ lengths : PlainProgram
 lengths =
     program (main [] (display (Dyad 1 1 (pr.Scalar f.Add) (Numbers 2 2 (pos 1 ∷ pos 2 ∷ [])) (Numbers 3 3 (pos 3 ∷ pos 4 ∷ pos 5 ∷ []))) ∷ []) ∷ [])
 
-lengths_run : eager lengths unmarked [] 9 ≡ Faulted [] (lines (1 ∷ [])) fault.Length (lines (1 ∷ []))
+lengths_run : eager lengths unmarked [] 9 ≡ Faulted [] (lines (1 ∷ [])) fault.Length (alone 1)
 unfolding eager lengths
 lengths_run = refl
 
 truth : PlainProgram
 truth = program (main [] (display (number 1 7) ∷ display (Dyad 2 2 (pr.Scalar f.And) (number 3 2) (number 4 1)) ∷ []) ∷ [])
 
-truth_run : eager truth unmarked [] 9 ≡ Faulted (codes "7" ++ 10 ∷ []) (lines (1 ∷ 2 ∷ [])) fault.Domain (lines (2 ∷ []))
+truth_run : eager truth unmarked [] 9 ≡ Faulted (codes "7" ++ 10 ∷ []) (lines (1 ∷ 2 ∷ [])) fault.Domain (alone 2)
 unfolding eager truth in_range digits encode
 truth_run = refl
 
@@ -153,14 +174,14 @@ truth_run = refl
 to_letter : PlainProgram
 to_letter = program (main [] (branch 1 (Text 2 2 (codes "A")) ∷ []) ∷ [])
 
-to_letter_run : eager to_letter unmarked [] 9 ≡ Faulted [] (lines (1 ∷ [])) fault.Domain (lines (1 ∷ []))
+to_letter_run : eager to_letter unmarked [] 9 ≡ Faulted [] (lines (1 ∷ [])) fault.Domain (alone 1)
 unfolding eager to_letter
 to_letter_run = refl
 
 to_table : PlainProgram
 to_table = program (main [] (branch 1 (Dyad 2 2 pr.Shape (Numbers 3 3 (pos 1 ∷ pos 1 ∷ [])) (number 4 1)) ∷ []) ∷ [])
 
-to_table_run : eager to_table unmarked [] 9 ≡ Faulted [] (lines (1 ∷ [])) fault.Rank (lines (1 ∷ []))
+to_table_run : eager to_table unmarked [] 9 ≡ Faulted [] (lines (1 ∷ [])) fault.Rank (alone 1)
 unfolding eager to_table
 to_table_run = refl
 
@@ -169,7 +190,7 @@ to_table_run = refl
 reading : PlainProgram
 reading = program (main [] (display (TextInput 1 1) ∷ display (Mono 2 2 (pr.Reduce f.Add ax.Last) (NumsInput 3 3)) ∷ display (TextInput 4 4) ∷ []) ∷ [])
 
-reading_run : eager reading unmarked (codes "abc" ++ 10 ∷ codes "1 -4 07") 9 ≡ Faulted (codes "abc" ++ 10 ∷ (codes "4" ++ 10 ∷ [])) (lines (1 ∷ 2 ∷ 3 ∷ [])) fault.Input (lines (3 ∷ []))
+reading_run : eager reading unmarked (codes "abc" ++ 10 ∷ codes "1 -4 07") 9 ≡ Faulted (codes "abc" ++ 10 ∷ (codes "4" ++ 10 ∷ [])) (lines (1 ∷ 2 ∷ 3 ∷ [])) fault.Input (alone 3)
 unfolding eager reading in_range digits encode input_line number_line is_utf8 chars
 reading_run = refl
 

@@ -16,4 +16,5 @@ pub mod Sums
 pub mod SumEager
 pub mod SumRuns
 pub mod RunLaws
+pub mod Balance
 pub mod Literals

@@ -1,5 +1,5 @@
 -- A program as plain data: what evaluation reads of it.
-use Rattle.std.specs.Prelude.{ℕ, ◌+◌, max, List, [], ◌∷◌, ◌++◌, map, fold, length, Option, option_map, option_and_then, slice_get, unwrap_or, ℤ}
+use Rattle.std.specs.Prelude.{ℕ, ◌+◌, max, List, [], ◌∷◌, ◌++◌, map, length, Option, None, option_map, option_and_then, slice_get, unwrap_or, ℤ}
 use Rattle.std.specs.Option.{option_to_list}
 use Rattle.aplc_syntax.specs.declared.tree.Named.{Named}
 use Rattle.aplc_syntax.specs.declared.tree.Line.{Line}
@@ -9,6 +9,7 @@ use Rattle.aplc_syntax.specs.declared.tree.Statement.{Statement}
 use Rattle.aplc_syntax.specs.declared.tree.Statement.TheVariants as st
 use Rattle.aplc_syntax.specs.PlainTrees.{Tree, Argument, Call, tree_of, ids}
 use Rattle.aplc_names.specs.declared.scope.Scope.{Scope}
+use Rattle.aplc_names.specs.declared.scope.Scope.TheVariants as scope
 use Rattle.aplc_names.specs.Scopes.{scope_in, start_of}
 
 -- what a line does: nothing; or it evaluates a tree, and displays its value or goes where that says. A call of a
@@ -79,9 +80,13 @@ routine_of p f = record {
 abbrev pub plain : Program → PlainProgram
 plain p = record { origin = p.origin; routines = map (routine_of p) p.functions; start = start_of p }
 
--- the routine where a program starts
-abbrev pub main_routine : PlainProgram → Option Routine
-main_routine p = option_and_then (slice_get p.routines) p.start
+-- one without a line
+abbrev pub no_routine : Routine
+no_routine = record { title = []; result = None; left = None; right = None; locals = []; scope = λ n. scope.Global; lines = [] }
+
+-- the routine where a program starts; a program that starts nowhere does nothing
+abbrev pub main_routine : PlainProgram → Routine
+main_routine p = unwrap_or (option_and_then (slice_get p.routines) p.start) no_routine
 
 -- ---- Headers
 

@@ -1,7 +1,10 @@
 -- Laws of runs: what holds of every program, every input and every number of lines.
-use Rattle.std.specs.Prelude.{◌≡◌, ◌≢◌, ℕ, ◌+◌, List, ◌++◌, None}
-use Rattle.aplc_names.specs.PlainPrograms.{PlainProgram, main_routine}
-use Rattle.aplc_names.specs.States.{Place, Marking, final}
+use Rattle.std.specs.Prelude.{◌≡◌, ℕ, ◌+◌, List, ◌++◌, All}
+use Rattle.aplc_arr.specs.Arrays.{IsArray}
+use Rattle.aplc_syntax.specs.declared.tree.Program.{Program}
+use Rattle.aplc_names.specs.Programs.{IsGrammatical}
+use Rattle.aplc_names.specs.PlainPrograms.{PlainProgram, plain}
+use Rattle.aplc_names.specs.States.{Place, Giving, Marking, final}
 use Rattle.aplc_names.specs.Runs.{Run, Ended, Faulted, Going, evaluated, eager, work}
 
 -- ---- Markings
@@ -41,7 +44,14 @@ abbrev pub OnlyGrows : PlainProgram → Type 0
 OnlyGrows p =
     (m : Marking) (input : List ℕ) (n more : ℕ) → IsPrefix (output (eager p m input n)) (output (eager p m input (n + more))) × IsPrefix (marks (eager p m input n)) (marks (eager p m input (n + more)))
 
--- in a program that starts somewhere a run goes on only where no more line may start
+-- a run goes on only where no more line may start
 abbrev pub GoesOnAtNone : PlainProgram → Type 0
 GoesOnAtNone p =
-    (main_routine p ≢ None) → (m : Marking) (input : List ℕ) (n : ℕ) → IsGoing (eager p m input n) → (final (evaluated p m input n)).world.left ≡ 0
+    (m : Marking) (input : List ℕ) (n : ℕ) → IsGoing (eager p m input n) → (final (evaluated p m input n)).world.left ≡ 0
+
+-- ---- Arrays
+
+-- in a program of the grammar each value that a run gives to a node is an array of the language
+abbrev pub GivesArrays : Program → Type 0
+GivesArrays p =
+    IsGrammatical p → (m : Marking) (input : List ℕ) (n : ℕ) → All (λ (x : Giving). IsArray x.value) (final (evaluated (plain p) m input n)).world.given

@@ -1,5 +1,5 @@
 -- What an evaluation stands in, and what it comes to.
-use Rattle.std.specs.Prelude.{ℕ, ◌+◌, ◌-◌, max, List, [], ◌∷◌, Option, Some, None, Bool, false, nat_eq, ◌||◌, if◌then◌else◌}
+use Rattle.std.specs.Prelude.{ℕ, ◌+◌, ◌-◌, max, List, [], ◌∷◌, length, Option, Some, None, Bool, false, nat_eq, ◌||◌, if◌then◌else◌}
 use Rattle.aplc_scalar.specs.declared.kind.FaultKind.{FaultKind}
 use Rattle.aplc_arr.specs.Arrays.{Array, product}
 
@@ -9,6 +9,23 @@ use Rattle.aplc_arr.specs.Arrays.{Array, product}
 pub record Place : Type 0 where
   pub function : List ℕ
   pub line : ℕ
+
+-- one place for each frame: that of the innermost, and those behind it from the inside out
+pub record Places : Type 0 where
+  pub here : Place
+  pub behind : List Place
+
+-- the innermost frame stands at another line
+abbrev pub at_line : ℕ → Places → Places
+at_line l ps = record { here = record { function = ps.here.function; line = l }; behind = ps.behind }
+
+-- a new frame stands in front of all others
+abbrev pub in_front : Place → Places → Places
+in_front q ps = record { here = q; behind = ps.here ∷ ps.behind }
+
+-- how many frames stand
+abbrev pub depth : Places → ℕ
+depth ps = 1 + length ps.behind
 
 -- the value of each name that has one
 abbrev pub Values : Type 0
@@ -23,8 +40,7 @@ pub record World : Type 0 where
   pub globals : Values
   -- of the innermost frame
   pub locals : Values
-  -- one for each frame, innermost first
-  pub places : List Place
+  pub places : Places
   -- how many lines may still start
   pub left : ℕ
   pub input : List ℕ

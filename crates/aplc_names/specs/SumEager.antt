@@ -4,12 +4,7 @@ use Rattle.aplc_scalar.specs.declared.kind.FaultKind.{FaultKind}
 use Rattle.aplc_scalar.specs.Scalar.{Given, dyadic}
 use Rattle.aplc_scalar.specs.Number.{number_text}
 use Rattle.aplc_names.specs.Sums.{Sum, number, apply, Task, nothing, quiet, display}
-use Rattle.aplc_names.specs.States.{Place}
-
--- one place for each frame: the innermost one, and those behind it from the inside out
-pub record Places : Type 0 where
-  pub here : Place
-  pub behind : List Place
+use Rattle.aplc_names.specs.States.{Place, Places, at_line}
 
 -- The marks are the lines started that have a statement, in order; `left` is how many lines may still start.
 pub record State : Type 0 where
@@ -47,10 +42,6 @@ abbrev pub statement : Task → State → Outcome (Unit {0})
 statement nothing s = Gives tt s
 statement (quiet e) s = and_then (value e s) (λ v t. Gives tt t)
 statement (display e) s = and_then (value e s) displayed
-
--- the innermost frame stands at another line
-abbrev pub at_line : ℕ → Places → Places
-at_line l places = record { here = record { function = places.here.function; line = l }; behind = places.behind }
 
 -- an empty statement leaves no mark
 abbrev pub marks_of : Task → Place → List Place

@@ -1,16 +1,9 @@
 -- The run of a MAIN of sums with so many lines started.
 use Rattle.std.specs.Prelude.{ℕ, List, [], codes}
-use Rattle.aplc_scalar.specs.declared.kind.FaultKind.{FaultKind}
 use Rattle.aplc_names.specs.Sums.{Task}
-use Rattle.aplc_names.specs.States.{Place}
-use Rattle.aplc_names.specs.SumEager.{Places, State, Outcome, lines_from}
+use Rattle.aplc_names.specs.Runs.{Run, Ended, Faulted, Going}
+use Rattle.aplc_names.specs.SumEager.{State, Outcome, lines_from}
 use Rattle.aplc_names.specs.SumEager as outcome
-
--- What a run with so many lines started comes to.
-pub data Run : Type 0 where
-  Ended : List ℕ → List Place → Run
-  Faulted : List ℕ → List Place → FaultKind → Places → Run
-  Going : List ℕ → List Place → Run
 
 abbrev pub run_of : Outcome (Unit {0}) → Run
 run_of (outcome.Gives done s) = Ended s.output s.marks

@@ -2,10 +2,8 @@
 use Rattle.std.specs.Prelude.{ℤ, List, [], ◌∷◌, Option, Some, None, find, option_map}
 use Rattle.aplc_scalar.specs.declared.function.ScalarFn.{ScalarFn}
 use Rattle.aplc_scalar.specs.declared.function.ScalarFn.TheVariants as f
-use Rattle.aplc_syntax.specs.declared.tree.Form.TheOpen as o
-use Rattle.aplc_syntax.specs.declared.tree.Form.TheOpen.{Form-F}
-use Rattle.aplc_syntax.specs.declared.tree.Form.{Form, fold-Form}
-use Rattle.aplc_syntax.specs.declared.tree.Node.{Node, Node-F, fold-Node}
+use Rattle.aplc_syntax.specs.declared.tree.Form.{Form}
+use Rattle.aplc_syntax.specs.declared.tree.Node.{Node}
 use Rattle.aplc_syntax.specs.declared.tree.Primitive.{Primitive}
 use Rattle.aplc_syntax.specs.declared.tree.Primitive.TheVariants as pr
 use Rattle.aplc_syntax.specs.declared.tree.Line.{Line}
@@ -13,6 +11,7 @@ use Rattle.aplc_syntax.specs.declared.tree.Function.{Function}
 use Rattle.aplc_syntax.specs.declared.tree.Program.{Program}
 use Rattle.aplc_syntax.specs.declared.tree.Statement.{Statement}
 use Rattle.aplc_syntax.specs.declared.tree.Statement.TheVariants as st
+use Rattle.aplc_syntax.specs.PlainTrees.{Tree, Numbers, Dyad, tree_of, tree_in}
 use Rattle.aplc_names.specs.Outlines.{outline}
 use Rattle.aplc_names.specs.Clashes.{is_start}
 
@@ -45,21 +44,19 @@ abbrev pub alone : List ℤ → Option Sum
 alone (x ∷ []) = Some (number x)
 alone _ = None
 
-abbrev pub form_sum : Form-F (Option Sum) (Option Sum) → Option Sum
-form_sum (o.Numbers xs) = alone xs
-form_sum (o.Dyad g a b) = dyad g a b
-form_sum _ = None
-
-abbrev pub node_sum : Node-F (Option Sum) (Option Sum) → Option Sum
-node_sum n = n.form
+-- the sum that a tree is, if it is one
+abbrev pub tree_sum : Tree → Option Sum
+tree_sum (Numbers i p xs) = alone xs
+tree_sum (Dyad i p g a b) = dyad g (tree_sum a) (tree_sum b)
+tree_sum _ = None
 
 -- the sum that a node is, if it is one
 abbrev pub sum_of : Node → Option Sum
-sum_of n = fold-Node (Option Sum) (Option Sum) form_sum node_sum n
+sum_of n = tree_sum (tree_of n)
 
--- the sum that a form is, if it is one
+-- the sum that a form is, if it is one, whatever the number and the place of its node
 abbrev pub sum_in : Form → Option Sum
-sum_in x = fold-Form (Option Sum) (Option Sum) form_sum node_sum x
+sum_in x = tree_sum (tree_in x 0 0)
 
 -- ---- Lines
 

@@ -20,6 +20,9 @@ pub use bound::{Bound, resolve};
 pub use entry::main_function;
 pub use laws::{clean_or_refusal, every_scope, one_refusal};
 pub use outline::{Mention, Outline};
-pub use run_laws::{free_of_markings, goes_on_at_none, only_grows, stays_over};
+pub use run_laws::{
+    assigns_its_names, free_of_markings, gives_arrays, goes_on_at_none, only_grows, stays_balanced,
+    stays_over,
+};
 pub use scope::Scope;
 pub use table::Table;

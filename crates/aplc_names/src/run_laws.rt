@@ -1,8 +1,11 @@
 //! What the definitions of runs promise, for those who build on them.
 //! It must not hold code that runs.
 
+ghost use Rattle.std.specs.Prelude.{ℕ, List};
+ghost use Rattle.aplc_syntax.specs.declared.tree.Program.{Program};
 ghost use Rattle.aplc_names.specs.PlainPrograms.{PlainProgram};
-ghost use Rattle.aplc_names.specs.RunLaws.{IsFreeOfMarkings, StaysOver, OnlyGrows, GoesOnAtNone};
+ghost use Rattle.aplc_names.specs.RunLaws.{IsFreeOfMarkings, StaysOver, OnlyGrows, GoesOnAtNone, GivesArrays};
+ghost use Rattle.aplc_names.specs.Balance.{IsAssigningListed, AssignsItsNames, StaysBalanced};
 
 /// What a run comes to, its work and what its nodes are given do not depend on which nodes the account counts.
 pub fn free_of_markings()
@@ -22,4 +25,20 @@ pub fn only_grows()
 /// A run goes on only where no more line may start.
 pub fn goes_on_at_none()
     ensures { (p : PlainProgram) → GoesOnAtNone p }
+{}
+
+/// Each value that a run gives to a node is an array of the language.
+pub fn gives_arrays()
+    ensures { (p : Program) → GivesArrays p }
+{}
+
+/// At the end of each statement the account is the sum of the counts of all names' values and of what callers hold,
+/// where each assigned name is listed once: a local one in its function's header, a global one in `gs`.
+pub fn stays_balanced()
+    ensures { (gs : List ℕ) (p : PlainProgram) → IsAssigningListed gs p → StaysBalanced gs p }
+{}
+
+/// In a program that nothing refuses each assigned name is listed once, if all its names are listed.
+pub fn assigns_its_names()
+    ensures { (p : Program) → AssignsItsNames p }
 {}

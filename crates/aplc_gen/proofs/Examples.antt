@@ -20,10 +20,12 @@ use Rattle.aplc_syntax.specs.Trees.{node}
 use Rattle.aplc_names.specs.Sums.{Sum, number, apply, nothing, quiet, display, dyad, sum_of}
 use Rattle.aplc_names.specs.States.{Place}
 use Rattle.aplc_names.specs.SumRuns.{eager, main}
-use Rattle.aplc_names.specs.SumRuns as run
+use Rattle.aplc_names.specs.Runs as run
 use Rattle.aplc_gen.specs.Emitted.{lines_code, widest}
 use Rattle.aplc_gen.specs.Shown.{place_shown, source_behaviour}
+use Rattle.aplc_names.proofs.RunExamples as whole
 use Rattle.aplc_names.proofs.SumForms.{sum_node, sum_Numbers, sum_Dyad}
+use Rattle.aplc_gen.proofs.Simulation.{tasks_behaviour}
 
 -- `(2+3)×4`
 abbrev first : Sum
@@ -63,7 +65,7 @@ marked ps = map place_shown ps
 abbrev shown : ℤ → List ℕ
 shown v = number_text v ++ 10 ∷ []
 
-twenty : source_behaviour (display first ∷ []) [] 1 ≡ Ended (codes "20" ++ 10 ∷ []) (marked (at 1 ∷ []))
+twenty : tasks_behaviour (display first ∷ []) [] 1 ≡ Ended (codes "20" ++ 10 ∷ []) (marked (at 1 ∷ []))
 unfolding eager in_range
 twenty =
     let d2 : decimal 2 ≡ codes "2" = decimal_digit 2 (omega arith) in
@@ -71,17 +73,17 @@ twenty =
     ap (λ t. Ended (t ++ 10 ∷ []) (marked (at 1 ∷ []))) d20
 
 -- from the right: ¯1 less 7; the second line is evaluated and not displayed
-ends : source_behaviour (display first ∷ quiet second ∷ nothing ∷ display second ∷ []) [] 4 ≡ Ended (shown (pos 20) ++ shown (negsuc 7)) (marked (at 1 ∷ at 2 ∷ at 4 ∷ []))
+ends : tasks_behaviour (display first ∷ quiet second ∷ nothing ∷ display second ∷ []) [] 4 ≡ Ended (shown (pos 20) ++ shown (negsuc 7)) (marked (at 1 ∷ at 2 ∷ at 4 ∷ []))
 unfolding eager in_range
 ends = refl
 
 -- with two lines started the third does not start
-goes_on : source_behaviour (display first ∷ nothing ∷ display second ∷ []) [] 2 ≡ Going (shown (pos 20)) (marked (at 1 ∷ []))
+goes_on : tasks_behaviour (display first ∷ nothing ∷ display second ∷ []) [] 2 ≡ Going (shown (pos 20)) (marked (at 1 ∷ []))
 unfolding eager in_range
 goes_on = refl
 
 -- LIMIT at its line, with what was displayed before
-faults : source_behaviour (display first ∷ nothing ∷ display over ∷ display second ∷ []) [] 9 ≡ Faulted (shown (pos 20)) (marked (at 1 ∷ at 3 ∷ [])) fault.Limit (record { here = place_shown (at 3); behind = [] })
+faults : tasks_behaviour (display first ∷ nothing ∷ display over ∷ display second ∷ []) [] 9 ≡ Faulted (shown (pos 20)) (marked (at 1 ∷ at 3 ∷ [])) fault.Limit (record { here = place_shown (at 3); behind = [] })
 unfolding eager in_range
 faults = refl
 
@@ -100,6 +102,22 @@ marks_going = refl
 marks_faulted : eager (display first ∷ display over ∷ display second ∷ []) [] 9 ≡ run.Faulted (shown (pos 20)) (at 1 ∷ at 2 ∷ []) fault.Limit (record { here = at 2; behind = [] })
 unfolding eager in_range
 marks_faulted = refl
+
+-- ---- Whole programs
+
+-- line l of MAIN or of F
+abbrev line_of : List ℕ → ℕ → machine.Place
+line_of f l = record { name = f; line = pos l }
+
+-- LIMIT in a function that line 2 of MAIN calls: its place, and behind it that of the caller
+call_faults : source_behaviour whole.failing whole.unmarked [] 9 ≡ Faulted [] (line_of main 2 ∷ line_of (codes "F") 1 ∷ []) fault.Limit (record { here = line_of (codes "F") 1; behind = line_of main 2 ∷ [] })
+unfolding run.eager whole.failing in_range
+call_faults = refl
+
+-- the empty line and the one with the call are started, and no line of F
+call_goes_on : source_behaviour whole.failing whole.unmarked [] 2 ≡ Going [] (line_of main 2 ∷ [])
+unfolding run.eager whole.failing in_range
+call_goes_on = refl
 
 -- ---- Trees
 

@@ -22,12 +22,17 @@ use Rattle.aplc_names.specs.Sums.{Sum, Task, nothing, quiet, display}
 use Rattle.aplc_names.specs.States.{Place}
 use Rattle.aplc_names.specs.SumEager.{Outcome, displayed, statement, started, marks_of, lines_from}
 use Rattle.aplc_names.specs.SumEager as evaluation
-use Rattle.aplc_names.specs.SumRuns.{Run, run_of, main, eager}
-use Rattle.aplc_names.specs.SumRuns as runs
-use Rattle.aplc_gen.specs.Shown.{place_shown, run_shown, source_behaviour}
+use Rattle.aplc_names.specs.SumRuns.{run_of, main, eager}
+use Rattle.aplc_names.specs.Runs.{Run}
+use Rattle.aplc_names.specs.Runs as runs
+use Rattle.aplc_gen.specs.Shown.{place_shown, run_shown}
 use Rattle.aplc_gen.specs.Emitted.{operand_expr, operand_code, display_code, line_code, lines_code, program_code, is_supported, is_task_supported, are_supported}
 use Rattle.aplc_gen.proofs.Bools.{and_left, and_right}
 use Rattle.aplc_gen.proofs.Evaluation.{Any, Kept, Computed, Failed, sum_value, value_is, sum_steps, holds_value, does_less, sum_does}
+
+-- what lines of sums show on an input, with so many of them started
+abbrev pub tasks_behaviour : List Task → List ℕ → ℕ → Standing
+tasks_behaviour lines input n = run_shown (eager lines input n)
 
 -- ---- What a line adds to the output, without its state
 
@@ -338,27 +343,27 @@ lines_over (x ∷ xs) l j left input o marks le g =
     line_over l x xs j left input o marks (λ o marks. lines_over xs (l + 1) l (left - 1) input o marks (omega arith))
     (subst (λ b. IsGoing (run_shown (run_of (cond b (evaluation.Going (standing_at j input o marks left)) (line_run l x xs (standing_at j input o marks left)))))) more g)
 
-source_over : (lines : List Task) (input : List ℕ) → IsGoing (source_behaviour lines input (length lines)) → ⊥
+source_over : (lines : List Task) (input : List ℕ) → IsGoing (tasks_behaviour lines input (length lines)) → ⊥
 unfolding eager
 source_over lines input = lines_over lines 1 0 (length lines) input [] [] (omega arith)
 
 -- ---- The program
 
 -- the program comes to what the source shows with so many lines, within a number of steps that no input changes
-program_comes : (lines : List Task) → are_supported lines ≡ true → (input : List ℕ) (n : ℕ) → Comes (code_of (program_code lines)) (lines_steps lines) (machine.initial (code_of (program_code lines)) input) (source_behaviour lines input n)
+program_comes : (lines : List Task) → are_supported lines ≡ true → (input : List ℕ) (n : ℕ) → Comes (code_of (program_code lines)) (lines_steps lines) (machine.initial (code_of (program_code lines)) input) (tasks_behaviour lines input n)
 unfolding eager
 program_comes lines ok input n =
     let c = code_of (program_code lines) in
     lines_come c 1 lines input ok 1 0 n [] [] (machine.initial c input) refl refl refl refl refl
 
-program_follows : (lines : List Task) → are_supported lines ≡ true → (input : List ℕ) (n : ℕ) → Follows (source_behaviour lines input) (behaviour (program_code lines) input) n
+program_follows : (lines : List Task) → are_supported lines ≡ true → (input : List ℕ) (n : ℕ) → Follows (tasks_behaviour lines input) (behaviour (program_code lines) input) n
 unfolding behaviour
 program_follows lines ok input n = let r = program_comes lines ok input n in record { steps = r.steps; same = r.same }
 
 -- a program of tasks behaves on every input as its lines do
-pub lines_alike : (lines : List Task) → are_supported lines ≡ true → (input : List ℕ) → Alike (source_behaviour lines input) (behaviour (program_code lines) input)
+pub lines_alike : (lines : List Task) → are_supported lines ≡ true → (input : List ℕ) → Alike (tasks_behaviour lines input) (behaviour (program_code lines) input)
 lines_alike lines ok input =
-    alike (source_behaviour lines input) (behaviour (program_code lines) input) (machine_of (program_code lines) input) record {
+    alike (tasks_behaviour lines input) (behaviour (program_code lines) input) (machine_of (program_code lines) input) record {
       fine = λ n. source_fine (eager lines input n);
       follows = program_follows lines ok input;
       far = λ m. (length lines, λ going. absurd (source_over lines input going));

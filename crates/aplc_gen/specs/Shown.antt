@@ -1,12 +1,11 @@
--- What the run of a program of tasks shows.
+-- What the run of a program shows.
 use Rattle.std.specs.Prelude.{ℕ, List, map, pos}
 use Rattle.aplc_cprof.specs.Behaviour.{Standing}
 use Rattle.aplc_cprof.specs.Behaviour as standing
 use Rattle.aplc_cprof.specs.Machine as machine
-use Rattle.aplc_names.specs.Sums.{Task}
-use Rattle.aplc_names.specs.States.{Place}
-use Rattle.aplc_names.specs.SumEager.{Places}
-use Rattle.aplc_names.specs.SumRuns.{Run, Ended, Faulted, Going, eager}
+use Rattle.aplc_names.specs.PlainPrograms.{PlainProgram}
+use Rattle.aplc_names.specs.States.{Place, Places, Marking}
+use Rattle.aplc_names.specs.Runs.{Run, Ended, Faulted, Going, eager}
 
 -- a place of the source as one of the machine
 abbrev pub place_shown : Place → machine.Place
@@ -20,6 +19,6 @@ run_shown (Ended o marks) = standing.Ended o (map place_shown marks)
 run_shown (Faulted o marks k places) = standing.Faulted o (map place_shown marks) k (places_shown places)
 run_shown (Going o marks) = standing.Going o (map place_shown marks)
 
--- what MAIN shows on an input, with so many lines started
-abbrev pub source_behaviour : List Task → List ℕ → ℕ → Standing
-source_behaviour lines input n = run_shown (eager lines input n)
+-- what a program shows on an input, with so many lines started
+abbrev pub source_behaviour : PlainProgram → Marking → List ℕ → ℕ → Standing
+source_behaviour p m input n = run_shown (eager p m input n)

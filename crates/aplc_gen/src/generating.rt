@@ -5,8 +5,10 @@ ghost use Rattle.std.specs.Prelude.{◌≡◌, ◌≤◌, ◌<◌, ◌^◌, ◌�
 ghost use Rattle.std.specs.Prelude.{ℕ, List as ListOf};
 ghost use Rattle.aplc_cprof.specs.WellFormed.{IsWellFormed};
 ghost use Rattle.aplc_cprof.specs.Behaviour.{behaviour, Alike};
-ghost use Rattle.aplc_names.specs.Sums.{Task, task_of, tasks_of, main_tasks};
+ghost use Rattle.aplc_names.specs.Sums.{task_of, tasks_of, main_tasks};
 ghost use Rattle.aplc_names.specs.SumRuns.{main};
+ghost use Rattle.aplc_names.specs.PlainPrograms.{plain};
+ghost use Rattle.aplc_names.specs.States.{Marking};
 ghost use Rattle.aplc_names.specs.Literals.{statement_numbers, HasNumbersInRange};
 ghost use Rattle.aplc_names.specs.Programs.{HasShortFunctions};
 ghost use Rattle.aplc_gen.specs.Shown.{source_behaviour};
@@ -99,16 +101,15 @@ fn build(alloc: Global, lines: &[Line]) -> Result<CProgram, AllocError>
     })
 }
 
-/// The C program of a program whose MAIN has only what is built: on every input it behaves as MAIN does. `AllocError`
-/// says nothing of the program.
+/// The C program of a program whose MAIN has only what is built: on every input it behaves as the program does,
+/// whichever nodes its account counts. `AllocError` says nothing of the program.
 pub fn generate(alloc: Global, program: &Program) -> Result<CProgram, AllocError>
     requires built { is_some (main_tasks program.now) ≡ true }
     requires short { HasShortFunctions program.now }
     requires numbers { HasNumbersInRange program.now }
     ensures formed { IfOk result (λ c. IsWellFormed c) }
     ensures alike { IfOk result
-        (λ c. (lines : ListOf Task) → main_tasks program.now ≡ Some lines
-        → (input : ListOf ℕ) → Alike (source_behaviour lines input) (behaviour c input)) }
+        (λ c. (m : Marking) (input : ListOf ℕ) → Alike (source_behaviour (plain program.now) m input) (behaviour c input)) }
 {
     let main = main_function(program);
     let c = build(alloc, main.lines.as_slice())?;

@@ -3,11 +3,13 @@ use Rattle.aplc_syntax.specs.declared.tree.Line.{Line}
 use Rattle.aplc_cprof.specs.declared.syntax.CProgram.{CProgram}
 use Rattle.aplc_cprof.specs.WellFormed.{IsWellFormed}
 use Rattle.aplc_cprof.specs.Behaviour.{behaviour, Alike}
-use Rattle.aplc_names.specs.Sums.{Task, tasks_of}
+use Rattle.std.specs.Prelude.{Some}
+use Rattle.aplc_names.specs.PlainPrograms.{plain}
+use Rattle.aplc_names.specs.Sums.{tasks_of, main_tasks}
 use Rattle.aplc_gen.specs.Frames.{HaveNumbersInRange, the_tasks}
 use Rattle.aplc_gen.specs.Shown.{source_behaviour}
 use Rattle.aplc_gen.specs.Emitted.{program_code}
-use Rattle.aplc_gen.proofs.Whole.{main_short, main_in_range, main_tasks_are, tasks_few}
+use Rattle.aplc_gen.proofs.Whole.{main_short, main_in_range, main_tasks_are, main_alike, tasks_few}
 use Rattle.aplc_gen.proofs.Formed.{program_formed}
 use Rattle.aplc_gen.proofs.Simulation.{lines_alike}
 use Rattle.aplc_gen.proofs.generating.generate.Goals as goal
@@ -26,9 +28,11 @@ returns-clause-formed c =
     (program_formed (the_tasks (tasks_of lines)) (tasks_few lines short) c.in_ok-c.ensures.narrow c.in_ok-c.ensures.supported)
 
 pub returns-clause-alike : goal.returns-clause-alike
-returns-clause-alike c = λ lines is input.
-    let f = c.main_function-main.result.now in
-    let same : the_tasks (tasks_of c.as_slice.result.now) ≡ lines = ap (λ (ls : List Line). the_tasks (tasks_of ls)) c.as_slice.ensures ∙ main_tasks_are c.args.program.now f lines c.main_function-main.ensures is in
-    subst (λ (p : CProgram). Alike (source_behaviour lines input) (behaviour p input)) (sym c.in_ok-c.ensures.code)
-    (subst (λ (ts : List Task). Alike (source_behaviour ts input) (behaviour (program_code (the_tasks (tasks_of c.as_slice.result.now))) input)) same
-    (lines_alike (the_tasks (tasks_of c.as_slice.result.now)) c.in_ok-c.ensures.supported input))
+returns-clause-alike c = λ m input.
+    let p = c.args.program.now in
+    let ts = the_tasks (tasks_of c.as_slice.result.now) in
+    let are : main_tasks p ≡ Some ts =
+    main_tasks_are p c.main_function-main.result.now c.main_function-main.ensures c.requires.built
+    ∙ ap (λ (ls : List Line). Some (the_tasks (tasks_of ls))) (sym c.as_slice.ensures) in
+    subst (λ (q : CProgram). Alike (source_behaviour (plain p) m input) (behaviour q input)) (sym c.in_ok-c.ensures.code)
+    (main_alike p ts are (program_code ts) m input (lines_alike ts c.in_ok-c.ensures.supported input))

@@ -32,3 +32,4 @@ mod Declared
 mod SpelledNames
 mod NumberedNodes
 mod Grammatical
+mod Decided

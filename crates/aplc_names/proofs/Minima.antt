@@ -61,13 +61,13 @@ more_tested P xs k d b n p best one new h e f to fro before =
 
 -- ---- Names that stand again
 
-again_is : (xs : List Named) (k : ℕ) (x : Named) → is_before (first x.name.0 xs) k ≡ true → IsAgain xs k x (refusal twice x.place)
+pub again_is : (xs : List Named) (k : ℕ) (x : Named) → is_before (first x.name.0 xs) k ≡ true → IsAgain xs k x (refusal twice x.place)
 again_is xs k x h =
     let s = some_before (first x.name.0 xs) k h in
     let f = at_first (is_named x.name.0) xs s.0 x s.1 in
     record { index = s.0; item = f.0; found = f.1; before = s.2; same = named_is x.name.0 f.0 f.2; is = refl }
 
-is_again : (xs : List Named) (k : ℕ) (x : Named) (r : Refusal) → IsAgain xs k x r → (is_before (first x.name.0 xs) k ≡ true) × (r ≡ refusal twice x.place)
+pub is_again : (xs : List Named) (k : ℕ) (x : Named) (r : Refusal) → IsAgain xs k x r → (is_before (first x.name.0 xs) k ≡ true) × (r ≡ refusal twice x.place)
 is_again xs k x r a =
     let f = found_by (is_named x.name.0) xs a.index a.item a.found (is_named_of x.name.0 a.item a.same) in
     let h : a.index < k = a.before in

@@ -1,7 +1,7 @@
 //! What the definitions promise, for those who build on them.
 //! It must not hold code that runs.
 
-ghost use Rattle.std.specs.Prelude.{◌≡◌, ℕ};
+ghost use Rattle.std.specs.Prelude.{◌≡◌, ◌⊎◌, ℕ};
 ghost use Rattle.aplc_lex.specs.declared.token.Refusal.{Refusal};
 ghost use Rattle.aplc_lex.specs.Firsts.{IsFirst};
 ghost use Rattle.aplc_syntax.specs.declared.tree.Program.{Program};
@@ -12,6 +12,11 @@ ghost use Rattle.aplc_names.specs.Scopes.{scope_of, IsScope};
 /// A program that nothing refuses has no first refusal.
 pub fn clean_or_refusal()
     ensures { (p : Program) (r : Refusal) → IsClean p → IsFirst (Stands p) r → ⊥ }
+{}
+
+/// Nothing refuses a program, or it has a first refusal.
+pub fn always_one()
+    ensures { (p : Program) → IsClean p ⊎ ((r : Refusal) × IsFirst (Stands p) r) }
 {}
 
 /// A program has one first refusal at most.

@@ -18,7 +18,7 @@ mod table;
 pub use aplc_lex::{Refusal, Stop};
 pub use bound::{Bound, resolve};
 pub use entry::main_function;
-pub use laws::{clean_or_refusal, every_scope, one_refusal};
+pub use laws::{always_one, clean_or_refusal, every_scope, one_refusal};
 pub use outline::{Mention, Outline};
 pub use run_laws::{
     assigns_its_names, free_of_markings, gives_arrays, goes_on_at_none, only_grows, stays_balanced,

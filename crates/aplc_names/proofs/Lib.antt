@@ -33,3 +33,4 @@ mod SpelledNames
 mod NumberedNodes
 mod Grammatical
 mod Decided
+mod FitExamples

@@ -102,3 +102,7 @@ pub record StaysBalanced (gs : List ℕ) (p : PlainProgram) : Type 0 where
   pub begins : (f : Routine) (input : List ℕ) (n : ℕ) → IsBalanced gs (names_of_header f) [] (initial f input n)
   pub enters : (f : Routine) (x y : Option Array) (s : State) (ns : List ℕ) (callers : List Waiting) → IsBalanced gs ns callers s → IsBalanced gs (names_of_header f) (record { names = ns; values = s.world.locals; held = s.account.held } ∷ callers) (entered f x y s)
   pub ends : (m : Marking) (k i j : ℕ) (f : Routine) (x : Action) (s : State) (callers : List Waiting) → slice_get p.routines i ≡ Some f → slice_get f.lines j ≡ Some x → IsBalanced gs (names_of_header f) callers s → s.account.held ≡ 0 → EndsBalanced gs (names_of_header f) callers (statement (context p m (run p m k) f) x s)
+
+-- So it is in each program of the grammar that nothing refuses, where all its names are listed.
+abbrev pub BalancesItsNames : Program → Type 0
+BalancesItsNames p = IsGrammatical p → IsClean p → StaysBalanced (numbers_below (length p.names)) (plain p)

@@ -5,7 +5,7 @@ ghost use Rattle.std.specs.Prelude.{ℕ, List};
 ghost use Rattle.aplc_syntax.specs.declared.tree.Program.{Program};
 ghost use Rattle.aplc_names.specs.PlainPrograms.{PlainProgram};
 ghost use Rattle.aplc_names.specs.RunLaws.{IsFreeOfMarkings, StaysOver, OnlyGrows, GoesOnAtNone, GivesArrays};
-ghost use Rattle.aplc_names.specs.Balance.{IsAssigningListed, AssignsItsNames, StaysBalanced};
+ghost use Rattle.aplc_names.specs.Balance.{IsAssigningListed, AssignsItsNames, StaysBalanced, BalancesItsNames};
 
 /// What a run comes to, its work and what its nodes are given do not depend on which nodes the account counts.
 pub fn free_of_markings()
@@ -41,4 +41,10 @@ pub fn stays_balanced()
 /// In a program that nothing refuses each assigned name is listed once, if all its names are listed.
 pub fn assigns_its_names()
     ensures { (p : Program) → AssignsItsNames p }
+{}
+
+/// In a program of the grammar that nothing refuses the account at the end of each statement is the sum of the counts of
+/// the values of all its names and of what callers hold.
+pub fn always_balanced()
+    ensures { (p : Program) → BalancesItsNames p }
 {}

@@ -104,7 +104,8 @@ fn put_nodes(out: &mut Vec<Mention>, entries: &[Option<Node>]) -> Result<(), All
     Ok(())
 }
 
-fn put_statement(out: &mut Vec<Mention>, statement: &Statement) -> Result<(), AllocError>
+/// Puts the names in a statement behind those that are there, in the order in which they stand.
+pub fn put_statement(out: &mut Vec<Mention>, statement: &Statement) -> Result<(), AllocError>
     ensures { OnOk result (out.new.items ≡ out.old.items ++ statement_mentions statement.now) }
 {
     match statement {

@@ -4,6 +4,7 @@ use Rattle.aplc_io.specs.Outside.{SinkState, HostState, Rose, IsMissing, sink_wi
 use Rattle.aplc_io.specs.Parts.{PartWritten, Tried}
 use Rattle.aplc_io.proofs.Sent.{sink_with-nil}
 use Rattle.aplc_cprof.specs.declared.syntax.CProgram.{CProgram}
+use Rattle.aplc_names.specs.States.{Marking}
 use Rattle.aplc_cprof.specs.Behaviour.{Standing, behaviour, output, IsStuck}
 use Rattle.aplc_cprof.specs.Behaviour as standing
 use Rattle.aplc_lex.specs.declared.token.Refusal.{Refusal}
@@ -318,9 +319,12 @@ module _ (c : Option Command) (old new : Outside) (e e2 : SinkState) (s : Status
 
   -- ---- What was compiled is never stuck
 
+  unmarked : Marking
+  unmarked = record { held = []; swept = []; roots = [] }
+
   stuck_by : (a : Action) (file text : List ℕ) (p : CProgram) (most : ℕ) (input : List ℕ) → steps_for a ≡ Some most → IsProgramOf a file text p → IsStuck (behaviour p input most) → (m : ℕ) × (a ≡ action.Exec m)
   stuck_by action.Compile file text p most input steps program is = cc
-  stuck_by (action.Run m) file text p most input steps program is = absurd ((program.behaves.alike input).never_stuck most is)
+  stuck_by (action.Run m) file text p most input steps program is = absurd ((program.behaves.alike unmarked input).never_stuck most is)
   stuck_by (action.Exec m) file text p most input steps program is = (m, refl)
 
   stuck_is : Ends c old new e e2 s → s ≡ status.Stuck → Executes c

@@ -16,7 +16,9 @@ use Rattle.aplc_syntax.specs.declared.tree.Program.{Program}
 use Rattle.aplc_names.specs.Outlines.{outline, outlines}
 use Rattle.aplc_names.specs.Clashes.{no_main, main_place, is_start, IsMainless, mainless}
 use Rattle.aplc_names.specs.Programs.{IsClean}
-use Rattle.aplc_names.specs.Sums.{Task, tasks_in, main_function, main_tasks}
+use Rattle.aplc_names.specs.PlainPrograms.{plain}
+use Rattle.aplc_names.specs.States.{Marking}
+use Rattle.aplc_names.specs.Sums.{tasks_in, main_function, main_tasks}
 use Rattle.aplc_gen.specs.Shown.{source_behaviour}
 use Rattle.aplc_cprof.specs.declared.syntax.CProgram.{CProgram}
 use Rattle.aplc_cprof.specs.Text.{program_text}
@@ -56,14 +58,8 @@ main_has_tasks p clean h = found_tasks (main_function p) (main_found p clean) h
 
 -- ---- What is made
 
-the_lines : (m : Option (List Task)) → is_some m ≡ true → (lines : List Task) × (m ≡ Some lines)
-the_lines None e = absurd (cc)
-the_lines (Some lines) e = (lines, refl)
-
-pub behaves : (file : List ℕ) (source : Program) (c : CProgram) → IsSource file source → is_some (main_tasks source) ≡ true → IsWellFormed c → ((lines : List Task) → main_tasks source ≡ Some lines → (input : List ℕ) → Alike (source_behaviour lines input) (behaviour c input)) → Behaves file c
-behaves file source c is_source tasks formed alike =
-    let lines = the_lines (main_tasks source) tasks in
-    record { source = source; is_source = is_source; lines = lines.0; are_lines = lines.1; formed = formed; alike = alike lines.0 lines.1 }
+pub behaves : (file : List ℕ) (source : Program) (c : CProgram) → IsSource file source → IsWellFormed c → ((m : Marking) (input : List ℕ) → Alike (source_behaviour (plain source) m input) (behaviour c input)) → Behaves file c
+behaves file source c is_source formed alike = record { source = source; is_source = is_source; formed = formed; alike = alike }
 
 pub compiled : (file text : List ℕ) (c : CProgram) → Behaves file c → text ≡ program_text c → IsCompiled file text c
 compiled file text c b t = record { behaves = b; is_text = record { well_formed = b.formed; text = t } }

@@ -2,7 +2,8 @@
 use Rattle.std.specs.Prelude.{◌≡◌, ◌⊎◌, ℕ, ◌<◌, ◌≤◌, List, length, Option, None, Some}
 use Rattle.aplc_lex.specs.declared.token.Refusal.{Refusal}
 use Rattle.aplc_syntax.specs.declared.tree.Program.{Program}
-use Rattle.aplc_names.specs.Sums.{Task, main_tasks}
+use Rattle.aplc_names.specs.PlainPrograms.{plain}
+use Rattle.aplc_names.specs.States.{Marking}
 use Rattle.aplc_gen.specs.Shown.{source_behaviour}
 use Rattle.aplc_cprof.specs.declared.syntax.CProgram.{CProgram}
 use Rattle.aplc_cprof.specs.WellFormed.{IsText, IsWellFormed}
@@ -13,15 +14,13 @@ use Rattle.aplc_cli.specs.declared.words.Action.{Action}
 use Rattle.aplc_cli.specs.declared.words.Action.TheVariants as action
 use Rattle.aplc_cli.specs.Sources.{IsSource, IsRefusedSource}
 
--- A file spells a program that nothing refuses, and on every input a well-formed C program behaves as the lines of MAIN
--- do.
+-- A file spells a program that nothing refuses, and on every input a well-formed C program behaves as that does,
+-- whichever nodes its account counts.
 pub record Behaves (file : List ℕ) (program : CProgram) : Type 0 where
   pub source : Program
   pub is_source : IsSource file source
-  pub lines : List Task
-  pub are_lines : main_tasks source ≡ Some lines
   pub formed : IsWellFormed program
-  pub alike : (input : List ℕ) → Alike (source_behaviour lines input) (behaviour program input)
+  pub alike : (m : Marking) (input : List ℕ) → Alike (source_behaviour (plain source) m input) (behaviour program input)
 
 -- The headline for one file: such a program, and the text is that of the program.
 pub record IsCompiled (file text : List ℕ) (program : CProgram) : Type 0 where

@@ -22,6 +22,7 @@ pub mod Spending
 pub mod GivenArrays
 pub mod Balancing
 pub mod AssignedNames
+pub mod Changing
 pub mod SumsRun
 pub mod RunExamples
 mod AccountExamples

@@ -21,8 +21,8 @@ pub use entry::main_function;
 pub use laws::{always_one, clean_or_refusal, every_scope, one_refusal};
 pub use outline::{Mention, Outline, put_statement};
 pub use run_laws::{
-    always_balanced, assigns_its_names, free_of_markings, gives_arrays, goes_on_at_none,
-    only_grows, stays_balanced, stays_over,
+    always_balanced, assigns_its_names, changes_alone, free_of_markings, gives_arrays,
+    goes_on_at_none, only_grows, stays_balanced, stays_over,
 };
 pub use scope::Scope;
 pub use table::Table;

@@ -4,7 +4,8 @@
 ghost use Rattle.std.specs.Prelude.{ℕ, List};
 ghost use Rattle.aplc_syntax.specs.declared.tree.Program.{Program};
 ghost use Rattle.aplc_names.specs.PlainPrograms.{PlainProgram};
-ghost use Rattle.aplc_names.specs.RunLaws.{IsFreeOfMarkings, StaysOver, OnlyGrows, GoesOnAtNone, GivesArrays};
+ghost use Rattle.aplc_names.specs.RunLaws.{IsFreeOfMarkings, StaysOver, OnlyGrows, GoesOnAtNone, GivesArrays, ChangesAlone};
+ghost use Rattle.aplc_names.specs.Eager.{Context};
 ghost use Rattle.aplc_names.specs.Balance.{IsAssigningListed, AssignsItsNames, StaysBalanced, BalancesItsNames};
 
 /// What a run comes to, its work and what its nodes are given do not depend on which nodes the account counts.
@@ -47,4 +48,10 @@ pub fn assigns_its_names()
 /// the values of all its names and of what callers hold.
 pub fn always_balanced()
     ensures { (p : Program) → BalancesItsNames p }
+{}
+
+/// Reading takes a line of the input, and `⎕←` adds the text of its value to the output; all else of the world stays,
+/// but for work and what nodes are given.
+pub fn changes_alone()
+    ensures { (c : Context) → ChangesAlone c }
 {}

@@ -78,10 +78,10 @@ long_file h name limit is_long = long h.files is_long
 -- ---- The program, well formed
 
 pub formed_made : (name : List ℕ) (h h2 : HostState) (m : CProgram × List ℕ) → Made action.Compile name h h2 (Ok m) → IsWellFormed m.0
-formed_made name h h2 m d = d.1.1.1.is_text.well_formed
+formed_made name h h2 m d = d.1.2.is_text.well_formed
 
 pub formed_read : (name : List ℕ) (h h2 : HostState) (n : ℕ) (m : CProgram × List ℕ) → Made (action.Exec n) name h h2 (Ok m) → IsWellFormed m.0
-formed_read name h h2 n m d = d.1.1.1.1.well_formed
+formed_read name h h2 n m d = d.1.2.1.well_formed
 
 -- ---- The text, sent
 

@@ -25,6 +25,7 @@ returns-clause-works g c =
     ran c.args.name.now (action.Exec c.args.budget) h i o c.args.budget refl (c.in_ok-program.program, []) h2 new (result_map told c.run_program.result)
     (to_execute c.args.name.now h h2 c.args.budget (Ok (c.in_ok-program.program, [])) c.in_ok-program.ensures.made) (c.run_program.ensures.ran (g.H.Host.state c.read_text.new.host))
 
-pub run_program-requires-clause-formed : goal.run_program-requires-clause-formed
-run_program-requires-clause-formed g c =
-    formed_read c.args.name.now (g.H.Host.state c.args.host.now) (g.H.Host.state c.read_text.new.host) 0 (c.in_ok-program.program, []) c.in_ok-program.ensures.made
+pub run_program-requires : goal.run_program-requires
+run_program-requires g c = record {
+  formed = formed_read c.args.name.now (g.H.Host.state c.args.host.now) (g.H.Host.state c.read_text.new.host) 0 (c.in_ok-program.program, []) c.in_ok-program.ensures.made;
+}

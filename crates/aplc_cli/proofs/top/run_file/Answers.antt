@@ -25,6 +25,7 @@ returns-clause-works g c =
     ran c.args.name.now (action.Run c.args.budget) h i o c.args.budget refl (c.in_ok-made.made.program, c.in_ok-made.made.text.items) h2 new (result_map told c.run_text.result)
     (to_run c.args.name.now h h2 c.args.budget (Ok (c.in_ok-made.made.program, c.in_ok-made.made.text.items)) c.in_ok-made.ensures.made) c.run_text.ensures.ran
 
-pub run_text-requires-clause-formed : goal.run_text-requires-clause-formed
-run_text-requires-clause-formed g c =
-    formed_made c.args.name.now (g.H.Host.state c.args.host.now) (g.H.Host.state c.make.new.host) (c.in_ok-made.made.program, c.in_ok-made.made.text.items) c.in_ok-made.ensures.made
+pub run_text-requires : goal.run_text-requires
+run_text-requires g c = record {
+  formed = formed_made c.args.name.now (g.H.Host.state c.args.host.now) (g.H.Host.state c.make.new.host) (c.in_ok-made.made.program, c.in_ok-made.made.text.items) c.in_ok-made.ensures.made;
+}

@@ -6,20 +6,12 @@ mod carrying;
 mod compiling;
 mod digits;
 mod entering;
-#[cfg(test)]
-mod entry_tests;
-#[cfg(test)]
-mod exec_tests;
 mod later;
 mod laws;
-#[cfg(test)]
-mod limit_tests;
 mod reading;
 mod report;
 mod status;
 mod steps;
-#[cfg(test)]
-mod tests;
 mod top;
 mod words;
 

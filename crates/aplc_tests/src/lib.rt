@@ -5,15 +5,23 @@
 #[cfg(test)]
 mod arr_tests;
 #[cfg(test)]
+mod call_tests;
+#[cfg(test)]
 mod cprof_tests;
 #[cfg(test)]
 mod cread_tests;
+#[cfg(test)]
+mod entry_tests;
+#[cfg(test)]
+mod exec_tests;
 #[cfg(test)]
 mod form_tests;
 #[cfg(test)]
 mod io_tests;
 #[cfg(test)]
 mod lex_tests;
+#[cfg(test)]
+mod limit_tests;
 #[cfg(test)]
 mod names_tests;
 #[cfg(test)]

@@ -1,7 +1,7 @@
 //! Calls of `--exec` over objects in memory.
 //! The expected bytes come from the rules of the C profile; its preamble has 3,457 bytes.
 
-use super::*;
+use aplc_cli::{Status, aplc};
 use aplc_cprof::preamble_bytes;
 use aplc_io::{MemHost, MemSink, MemSource};
 use std::alloc::Global;
@@ -279,7 +279,7 @@ fn spends_steps(rt: HostRuntime) -> Result<(), Fail> {
 }
 
 #[test]
-fn refuses_texts(rt: HostRuntime) -> Result<(), Fail> {
+fn refuses_preambles(rt: HostRuntime) -> Result<(), Fail> {
     let refused = Answer {
         status: Status::Refused,
         out: b"",
@@ -301,7 +301,17 @@ fn refuses_texts(rt: HostRuntime) -> Result<(), Fail> {
         err: b"REFUSED 30 PREAMBLE AT 228\n",
         ..refused
     };
-    execute(&rt, alloc, &[], older, &one_place)?;
+    execute(&rt, alloc, &[], older, &one_place)
+}
+
+#[test]
+fn refuses_texts(rt: HostRuntime) -> Result<(), Fail> {
+    let alloc = rt.alloc();
+    let refused = Answer {
+        status: Status::Refused,
+        out: b"",
+        err: b"",
+    };
     let name = Answer {
         err: b"REFUSED 33 NAME AT 3502\n",
         ..refused

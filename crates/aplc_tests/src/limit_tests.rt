@@ -1,19 +1,12 @@
 //! Sources at the limits of the language and beyond them, under `--run`.
 //! The expected bytes come from the rules of the language.
 
-use super::*;
+use crate::pieces::times;
+use aplc_cli::aplc;
 use aplc_io::{MemHost, MemSink, MemSource};
 use std::alloc::Global;
 use std::process::Abort;
 use std::test::Fail;
-
-fn times(alloc: Global, piece: &str, count: usize) -> Result<String, Fail> {
-    let mut out = String::new(alloc);
-    for _ in 0..count {
-        out.push_str(piece)?;
-    }
-    Ok(out)
-}
 
 // Lines of MAIN in a file of their own: what is written to out, and the line on err.
 fn runs(

@@ -1,8 +1,9 @@
 //! Whole calls over objects in memory.
 //! The expected bytes come from the rules of the language and of the C profile.
 
-use super::*;
-use aplc_cprof::{Builder, CExpr, CProgram, CStmt, List, preamble_bytes, print};
+use crate::pieces::program_of;
+use aplc_cli::{Status, aplc};
+use aplc_cprof::{Buf, Builder, CExpr, CFunction, CStmt, Int, preamble_bytes, print};
 use aplc_cread::read;
 use aplc_crun::Machine;
 use aplc_io::{Host, MemHost, MemSink, MemSource};
@@ -416,8 +417,22 @@ fn tells_the_target(rt: HostRuntime) -> Result<(), Fail> {
     Ok(())
 }
 
-// A program of one function that takes cells and frees them.
-fn small_program(alloc: Global) -> Result<CProgram, Fail> {
+// The text of a program of one function that takes cells and frees them.
+const SMALL: &str = r#"static void f0(void);
+static void f0(void) {
+int64_t v0;
+int64_t *b0 = 0;
+b0 = cells(3LL);
+if (1LL) {
+drop(b0);
+}
+v0 = 5LL;
+put_num(v0, 0LL);
+}
+"#;
+
+// The function of that program.
+fn small_function(alloc: Global) -> Result<CFunction, Fail> {
     let mut b = Builder::new(alloc);
     let v = b.fresh_int()?;
     let p = b.fresh_buf()?;
@@ -428,14 +443,21 @@ fn small_program(alloc: Global) -> Result<CProgram, Fail> {
     b.emit(CStmt::If(CExpr::Lit(1), block, None))?;
     b.emit(CStmt::Set(v, CExpr::Lit(5)))?;
     b.emit(CStmt::PutNum(CExpr::Var(v), CExpr::Lit(0)))?;
-    let mut functions = Vec::new(alloc);
-    functions.push(b.finish())?;
-    Ok(CProgram {
-        tables: List::from_vec(Vec::new(alloc)),
-        ints: 0,
-        bufs: 0,
-        functions: List::from_vec(functions),
-    })
+    Ok(b.finish())
+}
+
+// Whether a function is that of the small program.
+fn is_small(function: &CFunction) -> bool {
+    let freed = match function.body.as_slice() {
+        [
+            CStmt::Cells(Buf::Local(0), CExpr::Lit(3)),
+            CStmt::If(CExpr::Lit(1), block, None),
+            CStmt::Set(Int::Local(0), CExpr::Lit(5)),
+            CStmt::PutNum(CExpr::Var(Int::Local(0)), CExpr::Lit(0)),
+        ] => matches!(block.as_slice(), [CStmt::Free(Buf::Local(0))]),
+        _ => false,
+    };
+    freed && function.ints == 1 && function.bufs == 1
 }
 
 // The program of a text, read back, printed again.
@@ -450,7 +472,7 @@ fn printed_again(alloc: Global, text: &[u8]) -> Result<Vec<u8>, Fail> {
 #[test]
 fn takes_memory(rt: HostRuntime) -> Result<(), Fail> {
     let alloc = rt.alloc();
-    let mut machine = Machine::start(alloc, small_program(alloc)?)?;
+    let mut machine = Machine::start(alloc, program_of(alloc, SMALL)?)?;
     let mut host = MemHost::new(alloc, 10_000, Vec::new(alloc))?;
     host.add("f", "∇MAIN\n2+3×4\n∇\n".as_bytes().to_vec(alloc)?)?;
     let file = host.fetch(alloc, "f", 100)?;
@@ -487,5 +509,18 @@ fn builds(rt: HostRuntime) -> Result<(), Fail> {
     assert_eq!(rt; block.len(), 0);
     let second = b.fresh_int()?;
     assert!(rt; v != second);
+    Ok(())
+}
+
+// The builder's function is that of the text.
+#[test]
+fn builds_a_function(rt: HostRuntime) -> Result<(), Fail> {
+    let alloc = rt.alloc();
+    let program = program_of(alloc, SMALL)?;
+    let functions = program.functions.as_slice();
+    assert_eq!(rt; functions.len(), 1);
+    assert!(rt; is_small(&functions[0]));
+    let built = small_function(alloc)?;
+    assert!(rt; is_small(&built));
     Ok(())
 }

@@ -1,8 +1,8 @@
 //! The call that the program makes, over objects in memory.
 //! The expected codes and lines come from the rules of the command line.
 
-use super::*;
-use crate::tests::USAGE;
+use crate::call_tests::USAGE;
+use aplc_cli::entry;
 use aplc_io::{MemHost, MemSink, MemSource};
 use std::alloc::Global;
 use std::env::Args;

@@ -34,5 +34,3 @@ mod scalar_tests;
 mod switch_tests;
 #[cfg(test)]
 mod syntax_tests;
-#[cfg(test)]
-mod walk_tests;

@@ -1,19 +1,13 @@
-//! Tests of the crates below, each by what its crate makes public.
-//! It must not hold anything that another crate could want.
+//! Tests of the crates below aplc_cli, each by what its crate makes public; and what several tests make their texts of.
+//! It must not hold anything that a crate other than one of tests could want.
 #![tactic(auto)]
 
 #[cfg(test)]
 mod arr_tests;
 #[cfg(test)]
-mod call_tests;
-#[cfg(test)]
 mod cprof_tests;
 #[cfg(test)]
 mod cread_tests;
-#[cfg(test)]
-mod entry_tests;
-#[cfg(test)]
-mod exec_tests;
 #[cfg(test)]
 mod form_tests;
 #[cfg(test)]
@@ -21,10 +15,7 @@ mod io_tests;
 #[cfg(test)]
 mod lex_tests;
 #[cfg(test)]
-mod limit_tests;
-#[cfg(test)]
 mod names_tests;
-#[cfg(test)]
 mod pieces;
 #[cfg(test)]
 mod runner_tests;
@@ -34,3 +25,5 @@ mod scalar_tests;
 mod switch_tests;
 #[cfg(test)]
 mod syntax_tests;
+
+pub use pieces::{program_of, times};

@@ -1,12 +1,12 @@
 //! Whole calls over objects in memory.
 //! The expected bytes come from the rules of the language and of the C profile.
 
-use crate::pieces::program_of;
 use aplc_cli::{Status, aplc};
 use aplc_cprof::{Buf, Builder, CExpr, CFunction, CStmt, Int, preamble_bytes, print};
 use aplc_cread::read;
 use aplc_crun::Machine;
 use aplc_io::{Host, MemHost, MemSink, MemSource};
+use aplc_tests::program_of;
 use std::alloc::Global;
 use std::process::Abort;
 use std::test::Fail;

@@ -1,9 +1,9 @@
 //! Sources at the limits of the language and beyond them, under `--run`.
 //! The expected bytes come from the rules of the language.
 
-use crate::pieces::times;
 use aplc_cli::aplc;
 use aplc_io::{MemHost, MemSink, MemSource};
+use aplc_tests::times;
 use std::alloc::Global;
 use std::process::Abort;
 use std::test::Fail;

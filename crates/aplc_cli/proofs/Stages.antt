@@ -17,6 +17,8 @@ use Rattle.aplc_names.specs.Outlines.{outline, outlines}
 use Rattle.aplc_names.specs.Clashes.{no_main, main_place, is_start, IsMainless, mainless}
 use Rattle.aplc_names.specs.Programs.{IsClean}
 use Rattle.aplc_names.specs.PlainPrograms.{plain}
+use Rattle.aplc_infer.specs.Families.{IsWellTyped}
+use Rattle.aplc_infer.specs.Stopped.{SaysTyping}
 use Rattle.aplc_names.specs.States.{Marking}
 use Rattle.aplc_names.specs.Sums.{tasks_in, main_function, main_tasks}
 use Rattle.aplc_gen.specs.Shown.{source_behaviour}
@@ -25,7 +27,7 @@ use Rattle.aplc_cprof.specs.Text.{program_text}
 use Rattle.aplc_cprof.specs.WellFormed.{IsWellFormed}
 use Rattle.aplc_cprof.specs.Behaviour.{behaviour, Alike}
 use Rattle.aplc_cli.specs.Later.{later, least, has_tasks}
-use Rattle.aplc_cli.specs.Sources.{Spells, IsSource, IsRefusedSource, in_tokens, in_program, in_names, not_built}
+use Rattle.aplc_cli.specs.Sources.{Spells, IsSource, IsRefusedSource, in_tokens, in_program, in_names, in_facts, not_built}
 use Rattle.aplc_cli.specs.Call.{RefusesSource}
 use Rattle.aplc_cli.specs.Compiled.{Behaves, IsCompiled}
 
@@ -81,7 +83,11 @@ resolved : (file : List ℕ) (p : Program) (s : LexStop) → Spells file p → s
 resolved file p (lex_stop.Refused r) said h = in_names said h
 resolved file p lex_stop.Memory said h = tt
 
--- an answer of the last stage, whose program is p
+pub typed : (file : List ℕ) (p : Program) (s : LexStop) → Spells file p → IsClean p → SaysTyping p s → RefusesSource file s
+typed file p (lex_stop.Refused r) said clean h = in_facts said clean h
+typed file p lex_stop.Memory said clean h = tt
+
+-- an answer of the resolver, whose program is p
 module _ (file : List ℕ) (p : Program) (said : Spells file p) where
   pub ok_spells : (r : Result Program LexStop) → IfOk r (λ b. b ≡ p) → IfOk r (λ b. Spells file b)
   ok_spells (Ok b) e = subst (λ x. Spells file x) (sym e) said
@@ -101,8 +107,8 @@ pub stopped : (file : List ℕ) (s : LexStop) (r : Refusal) → s ≡ lex_stop.R
 stopped file (lex_stop.Refused q) r e h = subst (λ x. IsRefusedSource file x) (let same : q ≡ r = cc in same) h
 stopped file lex_stop.Memory r e h = absurd (cc)
 
-pub unbuilt : (file : List ℕ) (p : Program) (place : ℕ) → Spells file p → IsClean p → Some place ≡ least (later p) → IsRefusedSource file (refusal 90 place)
-unbuilt file p place said clean e = not_built said clean (sym e)
+pub unbuilt : (file : List ℕ) (p : Program) (place : ℕ) → Spells file p → IsClean p → IsWellTyped p → Some place ≡ least (later p) → IsRefusedSource file (refusal 90 place)
+unbuilt file p place said clean typed e = not_built said clean typed (sym e)
 
-pub source : (file : List ℕ) (p : Program) → Spells file p → IsClean p → None ≡ least (later p) → IsSource file p
-source file p said clean e = record { spells = said; clean = clean; built = sym e }
+pub source : (file : List ℕ) (p : Program) → Spells file p → IsClean p → IsWellTyped p → None ≡ least (later p) → IsSource file p
+source file p said clean typed e = record { spells = said; clean = clean; typed = typed; built = sym e }

@@ -16,8 +16,10 @@ use Rattle.aplc_syntax.proofs.OneProgram.{one_program}
 use Rattle.aplc_syntax.proofs.Clean.{clean}
 use Rattle.aplc_names.specs.Programs.{IsClean}
 use Rattle.aplc_names.specs.Clashes as names
+use Rattle.aplc_infer.specs.Families.{IsWellTyped, StandsFirst}
+use Rattle.aplc_infer.proofs.Verdicts as facts
 use Rattle.aplc_cli.specs.Later.{later, least}
-use Rattle.aplc_cli.specs.Sources.{Spells, IsSource, IsRefusedSource, too_long, in_tokens, in_program, in_names, not_built}
+use Rattle.aplc_cli.specs.Sources.{Spells, IsSource, IsRefusedSource, too_long, in_tokens, in_program, in_names, in_facts, not_built}
 
 -- ---- Tokens
 
@@ -66,6 +68,12 @@ module _ (file : List ℕ) where
   no_clash : (p q : Program) (r : Refusal) → Spells file p → IsClean p → Spells file q → IsFirst (names.Stands q) r → ⊥
   no_clash p q r a h b first = h r (subst (λ x. names.Stands x r) (spells_once q p b a) first.stands)
 
+  no_typing : (p q : Program) (r : Refusal) → Spells file p → IsWellTyped p → Spells file q → StandsFirst q r → ⊥
+  no_typing p q r a h b first = facts.not_both p r h (subst (λ x. StandsFirst x r) (spells_once q p b a) first)
+
+  typing_once : (p q : Program) (r s : Refusal) → Spells file p → StandsFirst p r → Spells file q → StandsFirst q s → r ≡ s
+  typing_once p q r s a h b k = facts.one_refusal p r s h (subst (λ x. StandsFirst x s) (spells_once q p b a) k)
+
   pub one_source : (p q : Program) → IsSource file p → IsSource file q → p ≡ q
   one_source p q a b = spells_once p q a.spells b.spells
 
@@ -77,7 +85,8 @@ module _ (file : List ℕ) where
   not_both p _ s (in_tokens {r = r} short first) = has_tokens file s.spells.tokens r s.spells.are_tokens first
   not_both p _ s (in_program {ts = ts} {r = r} short tokens first) = no_refusal p ts r s.spells tokens first
   not_both p _ s (in_names {p = q} {r = r} said first) = no_clash p q r s.spells s.clean said first
-  not_both p _ s (not_built {p = q} {place = place} said h e) = none_or_some p q place s.spells said s.built e
+  not_both p _ s (in_facts {p = q} {r = r} said c first) = no_typing p q r s.spells s.typed said first
+  not_both p _ s (not_built {p = q} {place = place} said h w e) = none_or_some p q place s.spells said s.built e
 
   -- ---- Two refusals
 
@@ -92,26 +101,37 @@ module _ (file : List ℕ) where
   one_refusal _ _ (too_long h) (in_tokens short k) = absurd (omega arith)
   one_refusal _ _ (too_long h) (in_program short t k) = absurd (omega arith)
   one_refusal _ _ (too_long h) (in_names said k) = let short = said.short in absurd (omega arith)
-  one_refusal _ _ (too_long h) (not_built said c k) = let short = said.short in absurd (omega arith)
+  one_refusal _ _ (too_long h) (in_facts said c k) = let short = said.short in absurd (omega arith)
+  one_refusal _ _ (too_long h) (not_built said c w k) = let short = said.short in absurd (omega arith)
   one_refusal _ _ (in_tokens short h) (too_long k) = absurd (omega arith)
   one_refusal r s (in_tokens short h) (in_tokens l k) = lex_once file r s h k
   one_refusal r _ (in_tokens short h) (in_program {ts = ts} l t k) = absurd (has_tokens file ts r t h)
   one_refusal r _ (in_tokens short h) (in_names said k) = absurd (has_tokens file said.tokens r said.are_tokens h)
-  one_refusal r _ (in_tokens short h) (not_built said c k) = absurd (has_tokens file said.tokens r said.are_tokens h)
+  one_refusal r _ (in_tokens short h) (in_facts said c k) = absurd (has_tokens file said.tokens r said.are_tokens h)
+  one_refusal r _ (in_tokens short h) (not_built said c w k) = absurd (has_tokens file said.tokens r said.are_tokens h)
   one_refusal _ _ (in_program short t h) (too_long k) = absurd (omega arith)
   one_refusal _ s (in_program {ts = ts} short t h) (in_tokens l k) = absurd (has_tokens file ts s t k)
   one_refusal r s (in_program {ts = ts} short t h) (in_program {ts = us} l u k) =
       first_once (syntax.Stands file ts) r s h (subst (λ ws. IsFirst (syntax.Stands file ws) s) (cut_once t.cut u.cut) k)
   one_refusal r _ (in_program {ts = ts} short t h) (in_names {p = q} said k) = absurd (no_refusal q ts r said t h)
-  one_refusal r _ (in_program {ts = ts} short t h) (not_built {p = q} said c k) = absurd (no_refusal q ts r said t h)
+  one_refusal r _ (in_program {ts = ts} short t h) (in_facts {p = q} said c k) = absurd (no_refusal q ts r said t h)
+  one_refusal r _ (in_program {ts = ts} short t h) (not_built {p = q} said c w k) = absurd (no_refusal q ts r said t h)
   one_refusal _ _ (in_names said h) (too_long k) = let short = said.short in absurd (omega arith)
   one_refusal _ s (in_names said h) (in_tokens l k) = absurd (has_tokens file said.tokens s said.are_tokens k)
   one_refusal _ s (in_names {p = p} said h) (in_program {ts = us} l u k) = absurd (no_refusal p us s said u k)
   one_refusal r s (in_names {p = p} said h) (in_names {p = q} other k) =
       first_once (names.Stands p) r s h (subst (λ x. IsFirst (names.Stands x) s) (spells_once q p other said) k)
-  one_refusal r _ (in_names {p = p} said h) (not_built {p = q} other c k) = absurd (no_clash q p r other c said h)
-  one_refusal _ _ (not_built said c h) (too_long k) = let short = said.short in absurd (omega arith)
-  one_refusal _ s (not_built said c h) (in_tokens l k) = absurd (has_tokens file said.tokens s said.are_tokens k)
-  one_refusal _ s (not_built {p = p} said c h) (in_program {ts = us} l u k) = absurd (no_refusal p us s said u k)
-  one_refusal _ s (not_built {p = p} said c h) (in_names {p = q} other k) = absurd (no_clash p q s said c other k)
-  one_refusal _ _ (not_built {p = p} {place = m} said c h) (not_built {p = q} {place = n} other d k) = places_once p q m n said other h k
+  one_refusal r _ (in_names {p = p} said h) (in_facts {p = q} other c k) = absurd (no_clash q p r other c said h)
+  one_refusal r _ (in_names {p = p} said h) (not_built {p = q} other c w k) = absurd (no_clash q p r other c said h)
+  one_refusal _ _ (in_facts said c h) (too_long k) = let short = said.short in absurd (omega arith)
+  one_refusal _ s (in_facts said c h) (in_tokens l k) = absurd (has_tokens file said.tokens s said.are_tokens k)
+  one_refusal _ s (in_facts {p = p} said c h) (in_program {ts = us} l u k) = absurd (no_refusal p us s said u k)
+  one_refusal _ s (in_facts {p = p} said c h) (in_names {p = q} other k) = absurd (no_clash p q s said c other k)
+  one_refusal r s (in_facts {p = p} said c h) (in_facts {p = q} other d k) = typing_once p q r s said h other k
+  one_refusal r _ (in_facts {p = p} said c h) (not_built {p = q} other d w k) = absurd (no_typing q p r other w said h)
+  one_refusal _ _ (not_built said c w h) (too_long k) = let short = said.short in absurd (omega arith)
+  one_refusal _ s (not_built said c w h) (in_tokens l k) = absurd (has_tokens file said.tokens s said.are_tokens k)
+  one_refusal _ s (not_built {p = p} said c w h) (in_program {ts = us} l u k) = absurd (no_refusal p us s said u k)
+  one_refusal _ s (not_built {p = p} said c w h) (in_names {p = q} other k) = absurd (no_clash p q s said c other k)
+  one_refusal _ s (not_built {p = p} said c w h) (in_facts {p = q} other d k) = absurd (no_typing p q s said w other k)
+  one_refusal _ _ (not_built {p = p} {place = m} said c w h) (not_built {p = q} {place = n} other d v k) = places_once p q m n said other h k

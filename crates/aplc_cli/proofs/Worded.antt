@@ -8,10 +8,15 @@ use Rattle.aplc_syntax.specs.declared.word.Word.{Word}
 use Rattle.aplc_syntax.specs.Refusals as syntax
 use Rattle.aplc_syntax.specs.declared.tree.Program.{Program}
 use Rattle.aplc_names.specs.Clashes as names
+use Rattle.aplc_infer.specs.declared.rule_break.RuleBreak.{RuleBreak}
+use Rattle.aplc_infer.specs.declared.rule_break.RuleBreak.TheVariants as breaks
+use Rattle.aplc_infer.specs.Rules.{number_of}
+use Rattle.aplc_infer.specs.Families.{StandsFirst}
+use Rattle.aplc_infer.proofs.Reasons.{first_reason}
 use Rattle.aplc_cread.specs.Refusal.{IsNumber}
 use Rattle.aplc_cli.specs.declared.words.Action.{Action}
 use Rattle.aplc_cli.specs.declared.words.Action.TheVariants as action
-use Rattle.aplc_cli.specs.Sources.{IsRefusedSource, too_long, in_tokens, in_program, in_names, not_built}
+use Rattle.aplc_cli.specs.Sources.{IsRefusedSource, too_long, in_tokens, in_program, in_names, in_facts, not_built}
 use Rattle.aplc_cli.specs.Compiled.{HasReason, IsRefusedText}
 use Rattle.aplc_cli.specs.Came.{refusal_word}
 use Rattle.aplc_cli.proofs.Lexed.{met_word}
@@ -59,12 +64,24 @@ of_names p r (names.mainless s) = of_same r _ s.is refl
 of_names p r (names.in_function s) = of_function _ _ _ r s.gives
 of_names p r (names.in_shadow s) = of_same r _ s.gives.gives.is refl
 
+break_word : (e : RuleBreak) → IsSome (refusal_word (number_of e))
+break_word breaks.Kind = refl
+break_word breaks.Rank = refl
+break_word breaks.Reshape = refl
+break_word breaks.Transpose = refl
+break_word breaks.Declared = refl
+break_word breaks.Axis = refl
+
+of_facts : (p : Program) (r : Refusal) → StandsFirst p r → HasWord r
+of_facts p r h = let found = first_reason p r h in same_word r.number (number_of found.0) found.1 (break_word found.0)
+
 of_source : (file : List ℕ) (r : Refusal) → IsRefusedSource file r → HasWord r
 of_source file _ (too_long l) = refl
 of_source file r (in_tokens short f) = of_tokens file r f.stands
 of_source file r (in_program {ts = ts} short t f) = of_program file ts r f.stands
 of_source file r (in_names {p = p} said f) = of_names p r f.stands
-of_source file _ (not_built said c e) = refl
+of_source file r (in_facts {p = p} said c f) = of_facts p r f
+of_source file _ (not_built said c w e) = refl
 
 of_number : (bytes : List ℕ) (n c : ℕ) → IsNumber bytes n c → IsSome (refusal_word c)
 of_number bytes n c (inl a) = same_word c 30 a.1 refl

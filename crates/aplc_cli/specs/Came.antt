@@ -66,6 +66,12 @@ name_word n =
     if nat_eq n 12 then codes "TWICE" else (if nat_eq n 13 then codes "FUNCTION" else (if nat_eq n 14 then codes "SHADOW"
     else (if nat_eq n 15 then codes "MAIN" else codes "ASSIGN")))
 
+-- of 17 to 22: of facts
+abbrev pub fact_word : ℕ → List ℕ
+fact_word n =
+    if nat_eq n 17 then codes "TYPE" else (if nat_eq n 18 then codes "RANK" else (if nat_eq n 19 then codes "RESHAPE"
+    else (if nat_eq n 20 then codes "TRANSPOSE" else (if nat_eq n 21 then codes "DECLARED" else codes "AXIS"))))
+
 -- of files and C texts, and of what is not built
 abbrev pub text_word : ℕ → Option (List ℕ)
 text_word n =
@@ -78,7 +84,7 @@ text_word n =
 abbrev pub refusal_word : ℕ → Option (List ℕ)
 refusal_word n =
     if nat_lt n 1 then None else (if nat_lt n 6 then Some (token_word n) else (if nat_lt n 12 then Some (program_word n)
-    else (if nat_lt n 17 then Some (name_word n) else text_word n)))
+    else (if nat_lt n 17 then Some (name_word n) else (if nat_lt n 23 then Some (fact_word n) else text_word n))))
 
 abbrev pub fault_word : FaultKind → List ℕ
 fault_word fault.Domain = codes "DOMAIN"

@@ -1,18 +1,20 @@
-//! From the bytes of a source to its program, with its names resolved: three stages, one after the other.
-//! It must not know what of a program is built.
+//! From the bytes of a source to its program, with its names resolved, which has facts: four stages, one after the
+//! other. It must not know what of a program is built.
 
 ghost use Rattle.std.specs.Prelude.{◌≤◌, length, IfOk, IfErr};
 ghost use Rattle.aplc_names.specs.Programs.{IsClean};
+ghost use Rattle.aplc_infer.specs.Families.{IsWellTyped};
 ghost use Rattle.aplc_cli.specs.Sources.{Spells, source_limit};
 ghost use Rattle.aplc_cli.specs.Call.{RefusesSource};
 
+use aplc_infer::infer;
 use aplc_lex::{Token, tokens};
 use aplc_names::{Bound, Stop, resolve};
 use aplc_syntax::{Program, parse};
 use std::alloc::Global;
 
 /// The program of a file, or its first refusal among those of tokens, statements and names.
-pub fn read_program(alloc: Global, file: &[u8]) -> Result<Bound, Stop>
+fn resolve_program(alloc: Global, file: &[u8]) -> Result<Bound, Stop>
     requires { length file.now ≤ source_limit }
     ensures spells { IfOk result (λ b. Spells file.now b) }
     ensures clean { IfOk result (λ b. IsClean b) }
@@ -21,4 +23,20 @@ pub fn read_program(alloc: Global, file: &[u8]) -> Result<Bound, Stop>
     let found = tokens(alloc, file)?;
     let program = parse(alloc, file, found.as_slice())?;
     resolve(alloc, program)
+}
+
+/// The program of a file, which is well typed, or its first refusal among those of tokens, statements, names and
+/// facts.
+pub fn read_program(alloc: Global, file: &[u8]) -> Result<Bound, Stop>
+    requires { length file.now ≤ source_limit }
+    ensures spells { IfOk result (λ b. Spells file.now b) }
+    ensures clean { IfOk result (λ b. IsClean b) }
+    ensures typed { IfOk result (λ b. IsWellTyped b) }
+    ensures refused { IfErr result (RefusesSource file.now) }
+{
+    let bound = resolve_program(alloc, file)?;
+    match infer(alloc, &bound) {
+        Ok(_) => Ok(bound),
+        Err(stop) => Err(stop),
+    }
 }

@@ -3,7 +3,7 @@
 
 ghost use Rattle.std.specs.Prelude.{◌≡◌, ◌<◌, ◌++◌, length, get_or, codes, Ok, Err, option_map};
 ghost use Rattle.std.specs.List.{flat_map};
-ghost use Rattle.aplc_cli.specs.Came.{line, status_of, refusal_line, token_word, program_word, name_word, text_word, refusal_word, fault_word, cause_word, fault_line, caller_line, fault_lines, stuck_line, told, result_map};
+ghost use Rattle.aplc_cli.specs.Came.{line, status_of, refusal_line, token_word, program_word, name_word, fact_word, text_word, refusal_word, fault_word, cause_word, fault_line, caller_line, fault_lines, stuck_line, told, result_map};
 ghost use Rattle.aplc_cli.specs.Call.{Reports, Wrote};
 ghost use Rattle.aplc_cprof.specs.Machine.{empty_place};
 ghost use Rattle.aplc_crun.specs.Running.{places_of};
@@ -58,6 +58,20 @@ fn name_word(number: u8) -> &'static [u8]
     }
 }
 
+// Of 17 to 22: of facts.
+fn fact_word(number: u8) -> &'static [u8]
+    ensures { result.now ≡ fact_word number }
+{
+    match number {
+        17 => b"TYPE",
+        18 => b"RANK",
+        19 => b"RESHAPE",
+        20 => b"TRANSPOSE",
+        21 => b"DECLARED",
+        _ => b"AXIS",
+    }
+}
+
 // Of files and C texts, and of what is not built.
 fn text_word(number: u8) -> Option<&'static [u8]>
     ensures { option_map (λ w. w.now) result ≡ text_word number }
@@ -82,6 +96,7 @@ fn refusal_word(number: u8) -> Option<&'static [u8]>
         1..=5 => Some(token_word(number)),
         6..=11 => Some(program_word(number)),
         12..=16 => Some(name_word(number)),
+        17..=22 => Some(fact_word(number)),
         _ => text_word(number),
     }
 }

@@ -6,7 +6,7 @@ use Rattle.aplc_cli.proofs.compiling.read_built.Goals as goal
 
 pub returns-in-Some-clause-refused : goal.returns-in-Some-clause-refused
 returns-in-Some-clause-refused c =
-    unbuilt c.args.file.now c.in-Ok.bound c.in-Some.place c.in-Ok.ensures.spells c.in-Ok.ensures.clean
+    unbuilt c.args.file.now c.in-Ok.bound c.in-Some.place c.in-Ok.ensures.spells c.in-Ok.ensures.clean c.in-Ok.ensures.typed
     (sym c.in-Some.is ∙ c.first_later.ensures.first ∙ ap (λ p. least (later p)) c.program.ensures.program)
 
 pub returns-in-None-clause-tasks : goal.returns-in-None-clause-tasks

@@ -123,6 +123,23 @@ const REFUSED: [(&str, &[u8]); 20] = [
     ("∇MAIN\n1\n∇\n∇F\n-1\n∇\n", b"REFUSED 90 LATER AT 19\n"),
 ];
 
+// What the typing rules refuse, in programs of which not all is built.
+const ILL_TYPED: [(&str, &[u8]); 7] = [
+    ("∇MAIN\n'abc'+1\n∇\n", b"REFUSED 17 TYPE AT 13\n"),
+    ("∇MAIN\n→(⍞)/L\nL:1\n∇\n", b"REFUSED 17 TYPE AT 16\n"),
+    ("∇MAIN\n(2 2⍴1)+1 2\n∇\n", b"REFUSED 18 RANK AT 17\n"),
+    ("∇MAIN\n(⎕NUMS)⍴5\n∇\n", b"REFUSED 19 RESHAPE AT 17\n"),
+    (
+        "∇MAIN\nA←2 1\nA⍉2 3⍴0\n∇\n",
+        b"REFUSED 20 TRANSPOSE AT 17\n",
+    ),
+    (
+        "VAR A NUM RANK 1\n∇MAIN\nA←1\n∇\n",
+        b"REFUSED 21 DECLARED AT 25\n",
+    ),
+    ("∇MAIN\n⌽[3]2 3⍴0\n∇\n", b"REFUSED 22 AXIS AT 8\n"),
+];
+
 fn refused(err: &[u8]) -> Answer<'_> {
     Answer {
         status: Status::Refused,
@@ -158,6 +175,19 @@ fn refuses(rt: HostRuntime) -> Result<(), Fail> {
         &case,
         &refused(b"REFUSED 23 TOO LONG AT 262144\n"),
     )
+}
+
+#[test]
+fn refuses_what_is_ill_typed(rt: HostRuntime) -> Result<(), Fail> {
+    for (source, err) in ILL_TYPED {
+        let case = Case {
+            words: &["--run", "f"],
+            file: source.as_bytes(),
+            ..PLAIN
+        };
+        check(&rt, rt.alloc(), &case, &refused(err))?;
+    }
+    Ok(())
 }
 
 #[test]

@@ -1,4 +1,4 @@
--- Each text that is UTF-8 has tokens or meets a refusal.
+-- Each refusal of tokens has a word.
 use Rattle.std.proofs.Common.{◌≡◌, ◌⊎◌, inl, inr, ℕ, suc, zero, ◌+◌, ◌<◌, ◌≤◌, Bool, true, false, ◌||◌, List, [], ◌∷◌, length, drop, take, Option, None, Some, nat_eq, nat_lt, ℤ, pos, refl, sym, ap, subst, arith, length-drop, IsUtf8}
 use Rattle.std.proofs.lemmas.Bool.Decides.{nat_tests}
 use Rattle.std.specs.Prelude.{neg_ℤ, if◌then◌else◌, IsSome}
@@ -112,62 +112,3 @@ pub met_word : {bs : List ℕ} {p : ℕ} {r : Refusal} → Meets bs p r → IsSo
 met_word (meets_here {b = b} {bs = bs} e) = has_word (moves b bs) e
 met_word (meets_behind_skip e m) = met_word m
 met_word (meets_behind_token e m) = met_word m
-
--- ---- Head by head
-
-abbrev Cuts : List ℕ → ℕ → Type 0
-Cuts bs p = ((ts : List Token) × IsCut bs p ts) ⊎ ((r : Refusal) × Meets bs p r)
-
-behind_skip : (bs : List ℕ) (p n : ℕ) → head bs ≡ h.Skip n → Cuts (drop n bs) (p + n) → Cuts bs p
-behind_skip bs p n e (inl c) = inl (c.0, skips e c.1)
-behind_skip bs p n e (inr m) = inr (m.0, meets_behind_skip e m.1)
-
-behind_token : (bs : List ℕ) (p n : ℕ) (t : TokenKind) → head bs ≡ h.Found t n → Cuts (drop n bs) (p + n) → Cuts bs p
-behind_token bs p n t e (inl c) = inl (token t p n ∷ c.0, finds e c.1)
-behind_token bs p n t e (inr m) = inr (m.0, meets_behind_token e m.1)
-
-cuts_by : (bs : List ℕ) (p : ℕ) (b : ℕ) (x : Head) → head (b ∷ bs) ≡ x → Moves x → ((n : ℕ) → 0 < n → Cuts (drop n (b ∷ bs)) (p + n)) → Cuts (b ∷ bs) p
-cuts_by bs p b _ e (by_skip {n = n} l) later = behind_skip (b ∷ bs) p n e (later n l)
-cuts_by bs p b _ e (by_token {t = t} {n = n} l) later = behind_token (b ∷ bs) p n t e (later n l)
-cuts_by bs p b _ e (not_at_all {n = n} w) later = inr (refusal n p, meets_here e)
-
-cuts : (size : ℕ) (bs : List ℕ) (p : ℕ) → length bs ≤ size → Cuts bs p
-cuts size [] p le = inl ([], at_end)
-cuts zero (b ∷ bs) p le = absurd (omega arith)
-cuts (suc size) (b ∷ bs) p le = cuts_by bs p b (head (b ∷ bs)) refl (moves b bs) (λ n l. cuts size (drop n (b ∷ bs)) (p + n) (omega (arith, length-drop n (b ∷ bs))))
-
--- ---- Tokens, or a first refusal
-
-not_valid : (text : List ℕ) (n : ℕ) → IsUtf8 text → IsValidUpTo text n → ⊥
-not_valid text n u v = v.longest (length text) v.short (subst IsUtf8 (sym (take_all (length text) text (omega arith))) u)
-
-module _ (text : List ℕ) (no_tokens : (ts : List Token) → AreTokens text ts → ⊥) (no_refusal : (r : Refusal) → IsFirst text r → ⊥) where
-  no_cause : (r : Refusal) → IsCause text r → ⊥
-  no_cause = none_stands (IsCause text) (λ r c first. no_refusal r (record { stands = c; first = first }))
-
-  -- a text that is not UTF-8 has a longest front that is
-  is_valid : is_utf8 text ≡ false → ⊥
-  is_valid e = nowhere (λ n. IsUtf8 (take n text)) (length text) longest 0 (omega arith) IsUtf8-nil
-    where
-      whole : (m : ℕ) → length text ≤ m → IsUtf8 (take m text) → ⊥
-      whole m le u = let a : is_utf8 text ≡ true = is_utf8-from_IsUtf8 text (subst IsUtf8 (take_all m text le) u) in cc
-
-      by_place : (n : ℕ) → n < length text → IsUtf8 (take n text) → ((m : ℕ) → n < m → m ≤ length text → IsUtf8 (take m text) → ⊥) → ⊥
-      by_place n l u last = no_cause (refusal 1 n) (inl (refl, record { short = l; front = u; longest = λ m lt v. further m lt v }))
-        where
-          further : (m : ℕ) → n < m → IsUtf8 (take m text) → ⊥
-          further m lt v = elim (order m (length text)) as (λ x. ⊥) [ inl b ↦ last m lt (omega arith) v | inr b ↦ whole m b v ]
-
-      longest : (n : ℕ) → n ≤ length text → IsUtf8 (take n text) → ((m : ℕ) → n < m → m ≤ length text → IsUtf8 (take m text) → ⊥) → ⊥
-      longest n le u last = elim (order n (length text)) as (λ x. ⊥) [ inl l ↦ by_place n l u last | inr ge ↦ whole n ge u ]
-
-  behind_mark : IsUtf8 text → Cuts (drop (mark text) text) (mark text) → ⊥
-  behind_mark u (inl c) = no_tokens c.0 (record { utf8 = u; cut = c.1 })
-  behind_mark u (inr m) = no_cause m.0 (inr (m.1, λ g v. absurd (not_valid text g u v)))
-
-  pub lexed : ⊥
-  lexed = by_test (is_utf8 text) refl
-    where
-      by_test : (t : Bool) → is_utf8 text ≡ t → ⊥
-      by_test true e = behind_mark (IsUtf8-from_is_utf8 text e) (cuts (length (drop (mark text) text)) (drop (mark text) text) (mark text) (omega arith))
-      by_test false e = is_valid e

@@ -1,11 +1,10 @@
+mod Always
 mod Causes
 pub mod DigitSteps
 mod Ended
 mod Examples
 mod Lexed
-mod Neither
 mod Places
-mod Spelled
 mod Stages
 pub mod Texts
 pub mod Unbuilt

@@ -1,7 +1,7 @@
 //! Laws of the definitions alone.
 //! They must not say what a call does.
 
-ghost use Rattle.std.specs.Prelude.{◌≡◌, ◌≤◌, ℕ, List, length, IsSome};
+ghost use Rattle.std.specs.Prelude.{◌≡◌, ◌⊎◌, ◌≤◌, ℕ, List, length, IsSome};
 ghost use Rattle.aplc_lex.specs.declared.token.Refusal.{Refusal};
 ghost use Rattle.aplc_syntax.specs.declared.tree.Program.{Program};
 ghost use Rattle.aplc_cprof.specs.declared.syntax.CProgram.{CProgram};
@@ -27,9 +27,9 @@ pub fn one_refusal()
     ensures { (file : List ℕ) (r s : Refusal) → IsRefusedSource file r → IsRefusedSource file s → r ≡ s }
 {}
 
-/// No file is neither a source nor refused.
+/// A file is a source, or it is refused.
 pub fn every_file()
-    ensures { (file : List ℕ) → ((p : Program) → IsSource file p → ⊥) → ((r : Refusal) → IsRefusedSource file r → ⊥) → ⊥ }
+    ensures { (file : List ℕ) → ((p : Program) × IsSource file p) ⊎ ((r : Refusal) × IsRefusedSource file r) }
 {}
 
 /// A C text is that of one program at most.

@@ -33,5 +33,5 @@ mod Declared
 mod SpelledNames
 mod NumberedNodes
 mod Grammatical
-mod Decided
+pub mod Decided
 mod FitExamples

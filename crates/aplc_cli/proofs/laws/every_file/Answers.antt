@@ -1,5 +1,5 @@
-use Rattle.aplc_cli.proofs.Neither.{neither}
+use Rattle.aplc_cli.proofs.Always.{source_or_refused}
 use Rattle.aplc_cli.proofs.laws.every_file.Goals as goal
 
 pub returns : goal.returns
-returns c = neither
+returns c = source_or_refused

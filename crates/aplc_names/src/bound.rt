@@ -113,7 +113,6 @@ impl Bound {
     /// has the name; a label's line has it as its label.
     pub fn scope(&self, function: usize, name: NameId) -> Scope
         requires function { function < length self.now.functions }
-        requires name { name.0 < length self.now.names }
         ensures scope { result ≡ scope_of self.now function name.0 }
         ensures stands { IsScope self.now function name.0 result }
     {

@@ -1,20 +1,15 @@
 -- Each refusal of tokens has a word.
-use Rattle.std.proofs.Common.{◌≡◌, ◌⊎◌, inl, inr, ℕ, suc, zero, ◌+◌, ◌<◌, ◌≤◌, Bool, true, false, ◌||◌, List, [], ◌∷◌, length, drop, take, Option, None, Some, nat_eq, nat_lt, ℤ, pos, refl, sym, ap, subst, arith, length-drop, IsUtf8}
+use Rattle.std.proofs.Common.{◌≡◌, ℕ, ◌+◌, ◌<◌, Bool, true, false, ◌||◌, List, [], ◌∷◌, Option, None, Some, nat_eq, nat_lt, ℤ, pos, refl, ap, subst, arith}
 use Rattle.std.proofs.lemmas.Bool.Decides.{nat_tests}
 use Rattle.std.specs.Prelude.{neg_ℤ, if◌then◌else◌, IsSome}
-use Rattle.std.specs.Str.{IsValidUpTo, is_utf8}
-use Rattle.std.proofs.lemmas.Str.{IsUtf8-from_is_utf8, is_utf8-from_IsUtf8, IsUtf8-nil}
-use Rattle.std.proofs.lemmas.List.{take_all}
-use Rattle.aplc_lex.specs.declared.token.Token.{Token}
 use Rattle.aplc_lex.specs.declared.token.TokenKind.{TokenKind}
 use Rattle.aplc_lex.specs.declared.token.Refusal.{Refusal}
 use Rattle.aplc_lex.specs.declared.token.Head.{Head}
 use Rattle.aplc_lex.specs.declared.token.Head.TheVariants as h
 use Rattle.aplc_lex.specs.Signs.{is_digit, symbol_of, two, three}
 use Rattle.aplc_lex.specs.Heads.{name_bytes, name_chars, digits, value_from, text_bytes, named, in_range_of, number_of, positive, negative, quoted, sign, quad, of_three, of_wide, wide, line_end, head}
-use Rattle.aplc_lex.specs.Tokens.{token, refusal, IsCut, at_end, skips, finds, Meets, meets_here, meets_behind_skip, meets_behind_token, mark, AreTokens, IsCause, IsFirst}
+use Rattle.aplc_lex.specs.Tokens.{Meets, meets_here, meets_behind_skip, meets_behind_token}
 use Rattle.aplc_cli.specs.Came.{refusal_word}
-use Rattle.aplc_cli.proofs.Places.{order, nowhere, none_stands}
 
 -- ---- A head has bytes, or is refused with a word
 

@@ -1,8 +1,6 @@
 -- The last place at which something holds: where there is none, it holds nowhere.
 use Rattle.std.proofs.Common.{◌≡◌, ◌⊎◌, inl, inr, ℕ, zero, suc, ◌+◌, ◌<◌, ◌≤◌, Bool, true, false, nat_lt, refl, arith}
 use Rattle.std.proofs.lemmas.Bool.Decides.{nat_tests}
-use Rattle.aplc_lex.specs.declared.token.Refusal.{Refusal}
-use Rattle.aplc_lex.specs.Tokens.{IsBefore}
 
 pub order : (a b : ℕ) → (a < b) ⊎ (b ≤ a)
 order a b = by_test (nat_lt a b) refl

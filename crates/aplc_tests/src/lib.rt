@@ -9,13 +9,7 @@ mod cprof_tests;
 #[cfg(test)]
 mod cread_tests;
 #[cfg(test)]
-mod drawn_cases;
-#[cfg(test)]
-mod fact_cases;
-#[cfg(test)]
 mod form_tests;
-#[cfg(test)]
-mod infer_tests;
 #[cfg(test)]
 mod io_tests;
 #[cfg(test)]
@@ -23,8 +17,6 @@ mod lex_tests;
 #[cfg(test)]
 mod names_tests;
 mod pieces;
-#[cfg(test)]
-mod refused_cases;
 #[cfg(test)]
 mod runner_tests;
 #[cfg(test)]

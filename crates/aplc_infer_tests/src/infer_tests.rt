@@ -107,11 +107,7 @@ fn node_at(nodes: &[Placed], place: u64) -> Option<NodeId> {
 
 // ---- What is known of a node, as text
 
-fn put_lengths(
-    alloc: Global,
-    out: &mut String,
-    lengths: &[Option<i64>],
-) -> Result<(), Fail> {
+fn put_lengths(alloc: Global, out: &mut String, lengths: &[Option<i64>]) -> Result<(), Fail> {
     for (axis, length) in lengths.iter().enumerate() {
         if axis > 0 {
             out.push_str(" ")?;
@@ -167,7 +163,13 @@ fn check_facts(rt: &impl Abort, alloc: Global, case: &Case) -> Result<(), Fail> 
     let facts = infer(alloc, &bound)?;
     assert_eq!(rt; nodes.len(), rows.len(), "{source}");
     for (place, expected) in rows {
-        check_node(rt, alloc, &facts, node_at(nodes.as_slice(), *place), expected)?;
+        check_node(
+            rt,
+            alloc,
+            &facts,
+            node_at(nodes.as_slice(), *place),
+            expected,
+        )?;
     }
     Ok(())
 }

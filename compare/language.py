@@ -1,14 +1,16 @@
-"""What `aplc --run` must print for a source, read from docs/LANGUAGE.md alone.
+"""What `aplc --run` must print for a source, read from docs/LANGUAGE.md and docs/TYPING.md alone.
 
 It shares nothing with the crates: tokens by characters, statements by trying every form, chains of calls by sets.
 """
+
+import typing_rules
 
 GREATEST = 9223372036854775807
 
 WORDS = {
     1: "UTF8", 2: "CHARACTER", 3: "QUOTE", 4: "NUMBER", 5: "NAME", 6: "HEADER", 7: "FORM", 8: "NESTING", 9: "NODES",
-    10: "COUNT", 11: "DECLARATION", 12: "TWICE", 13: "FUNCTION", 14: "SHADOW", 15: "MAIN", 16: "ASSIGN",
-    23: "TOO LONG", 90: "LATER",
+    10: "COUNT", 11: "DECLARATION", 12: "TWICE", 13: "FUNCTION", 14: "SHADOW", 15: "MAIN", 16: "ASSIGN", 17: "TYPE",
+    18: "RANK", 19: "RESHAPE", 20: "TRANSPOSE", 21: "DECLARED", 22: "AXIS", 23: "TOO LONG", 90: "LATER",
 }
 
 SECOND_SPELLINGS = {"∣": "|", "∼": "~", "^": "∧", "∈": "∊"}
@@ -67,14 +69,13 @@ class Characters:
 
 
 def read_text(characters, i):
-    text, j = characters.text, i + 1
+    """Where the text ends, and how many characters it has."""
+    text, j, count = characters.text, i + 1, 0
     while j < len(text) and text[j] != "\n":
-        if text[j] != "'":
-            j += 1
-        elif text[j + 1 : j + 2] == "'":
-            j += 2
-        else:
-            return j + 1
+        if text[j] == "'" and text[j + 1 : j + 2] != "'":
+            return j + 1, count
+        j += 1 if text[j] != "'" else 2
+        count += 1
     bad = characters.bad
     if bad is not None and j == len(text) and b"'" in characters.source[bad:].split(b"\n")[0]:
         raise Refused(bad, 1)
@@ -105,7 +106,8 @@ def read_token(characters, i):
         end, value = read_number(characters, i)
         return Token("number", place, value), end
     if c == "'":
-        return Token("text", place), read_text(characters, i)
+        end, count = read_text(characters, i)
+        return Token("text", place, count), end
     if c == "⎕" and i + 1 < len(text) and is_letter(text[i + 1]):
         end = characters.run(i + 1, lambda d: is_letter(d) or is_digit(d))
         if text[i + 1 : end] != "NUMS":
@@ -143,12 +145,14 @@ def lines_of(source):
 # ---- Statements: each reader answers every end that its part may have, with the tree up to there
 
 class Node:
-    def __init__(self, kind, place, children=(), value=None):
-        self.kind, self.place, self.children, self.value = kind, place, list(children), value
+    """A node with its arguments from left to right; `lists` are the entries of an index list, None where one is empty."""
+
+    def __init__(self, kind, place, children=(), value=None, lists=()):
+        self.kind, self.place, self.children, self.value, self.lists = kind, place, list(children), value, list(lists)
 
     def walk(self):
         yield self
-        for child in self.children:
+        for child in self.children + [entry for entry in self.lists if entry]:
             yield from child.walk()
 
 
@@ -183,7 +187,7 @@ class Forms:
             j += 1
             yield j, Node("numbers", token.place, value=[t.value for t in self.tokens[i:j]])
         if token.kind in ("text", "⍞", "nums"):
-            yield i + 1, Node("leaf", token.place)
+            yield i + 1, Node(token.kind, token.place, value=token.value)
         if self.role(i) in ("variable", ("function", 0)):
             yield i + 1, Node("named", token.place, value=token.value)
 
@@ -195,10 +199,11 @@ class Forms:
             yield j, node
             if self.kind(j) == "[":
                 entries = self.once("entries", j + 1)
-                found += [(k + 1, Node("index", self.tokens[j].place, [node] + inside)) for k, inside in entries]
+                found += [(k + 1, Node("index", self.tokens[j].place, [node], lists=inside)) for k, inside in entries]
 
     def entries(self, i):
-        for j, entry in [(i, [])] + [(j, [node]) for j, node in self.once("value", i)]:
+        """The entries of an index list up to its bracket, None where one is empty."""
+        for j, entry in [(i, [None])] + [(j, [node]) for j, node in self.once("value", i)]:
             if self.kind(j) == "]":
                 yield j, entry
             if self.kind(j) == ";":
@@ -224,9 +229,13 @@ class Forms:
             yield i + 3
 
     def apply(self, i, end, arguments):
-        token = self.tokens[i]
-        kind = "dyad" if len(arguments) == 2 and end == i + 1 and token.kind in SCALAR else "named" if token.kind == "name" else "function"
-        return Node(kind, token.place, arguments, token.value if token.kind == "name" else token.kind)
+        """A function from its first word to its last: a name, or its symbols with the number of a named axis or None."""
+        words = self.tokens[i:end]
+        if words[0].kind == "name":
+            return Node("named", words[0].place, arguments, words[0].value)
+        axis = words[-2].value if words[-1].kind == "]" else None
+        symbols = "".join(t.kind for t in words if t.kind not in ("[", "number", "]"))
+        return Node("dyad" if len(arguments) == 2 else "mono", words[0].place, arguments, (symbols, axis))
 
     def value(self, i):
         operands = self.once("operand", i)
@@ -250,7 +259,7 @@ class Forms:
             if self.kind(j) == "←":
                 kind = "assigned" if self.kind(i) == "name" else "shown"
                 for end, right in self.once("value", j + 1):
-                    yield end, Node(kind, self.tokens[i].place, inside + [right], self.tokens[i].value)
+                    yield end, Node(kind, self.tokens[i].place, [right], self.tokens[i].value, inside)
 
     def statements(self):
         """Every statement that the tokens are, as the place of its branch, whether it is quiet, and its tree."""
@@ -350,7 +359,7 @@ def statement_refusals(tokens, headers):
 
 
 def parse(lines):
-    functions, declared, refusals, origin, opened = [], [], [], False, None
+    functions, declared, refusals, origin, opened = [], [], [], None, None
     for start, tokens in lines:
         is_del = bool(tokens) and tokens[0].kind == "∇"
         if opened and is_del:
@@ -361,12 +370,12 @@ def parse(lines):
             opened = Function(start, tokens)
             functions.append(opened)
         elif tokens:
-            if functions or not is_declaration(tokens) or len(tokens) == 2 and origin:
+            if functions or not is_declaration(tokens) or len(tokens) == 2 and origin is not None:
                 refusals.append((tokens[0].place, 11))
             elif len(tokens) == 2:
-                origin = True
+                origin = tokens[1].value
             else:
-                declared.append(tokens[1])
+                declared.append(tokens)
     headers = {}
     for f in functions:
         if f.header:
@@ -385,7 +394,7 @@ def parse(lines):
     refusals += [(f.start, 10) for f in functions[999:1000]]
     if refusals:
         raise Refused(*min(refusals))
-    return functions, declared
+    return functions, declared, 1 if origin is None else origin
 
 
 # ---- Names
@@ -398,8 +407,8 @@ def seconds(tokens):
         met.add(t.value)
 
 
-def resolve(functions, declared):
-    heads = [f.header.name for f in functions]
+def resolve(functions, declarations):
+    heads, declared = [f.header.name for f in functions], [tokens[1] for tokens in declarations]
     names = {t.value for t in heads}
     twice = list(seconds(heads)) + list(seconds(declared)) + [t for t in declared if t.value in names]
     refusals = []
@@ -439,7 +448,7 @@ def shadows(functions, names):
 # ---- What is built
 
 def is_built(node):
-    return node.kind == "numbers" and len(node.value) == 1 or node.kind == "dyad" and node.value in BUILT
+    return node.kind == "numbers" and len(node.value) == 1 or node.kind == "dyad" and node.value[0] in BUILT
 
 
 def later(functions):
@@ -456,7 +465,8 @@ def value(node):
         return node.value[0]
     right = value(node.children[1])
     left = value(node.children[0])
-    result = left + right if node.value == "+" else left - right if node.value == "-" else left * right
+    symbol = node.value[0]
+    result = left + right if symbol == "+" else left - right if symbol == "-" else left * right
     if abs(result) > GREATEST:
         raise Limit
     return result
@@ -467,8 +477,11 @@ def run(source):
     try:
         if len(source) > 262144:
             raise Refused(262144, 23)
-        functions, declared = parse(lines_of(source))
-        main = resolve(functions, declared)
+        functions, declarations, origin = parse(lines_of(source))
+        main = resolve(functions, declarations)
+        declared = {tokens[1].value: (tokens[2].value, tokens[4].value) for tokens in declarations}
+        for refusal in typing_rules.refusals(functions, declared, origin)[:1]:
+            raise Refused(*refusal)
         for place in sorted(later(functions))[:1]:
             raise Refused(place, 90)
     except Refused as r:

@@ -1,4 +1,6 @@
-"""Random sources: sums, all forms of statements, functions that call each other, sources at the limits, broken bytes."""
+"""Random sources: sums, all forms of statements, functions that call each other, arrays whose kinds and ranks mostly fit,
+sources at the limits, broken bytes.
+"""
 
 SYMBOLS = list("+-×⌈⌊<≤=≥>≠∧∨⍲⍱~⍴,⍳↑↓⌽⊖⍉/⌿\\⍀∊.∘←→()[];:⍞⎕∇|")
 NAMES = ["A", "B", "X", "F", "G", "H", "MAIN", "L", "R", "ORIGIN", "VAR", "NUM", "RANK"]
@@ -7,6 +9,11 @@ BEFORE = list("+-×⌈⌊~⍴,⍳⍉|⌽⊖") + ["+/", "-\\", "×⌿[1]", "⌽[2
 BETWEEN = list("+-×⌈<=∧⍴,⍳↑↓⌽/\\∊|") + ["∘.+", "+.×", " F ", " G ", "⍀[1]"]
 ODD = ["F", "G", "H", "F 1", "1 G 2", "H H", "A F 1", "X", "A 1", "A(1)", "A B←1"]
 DECLARATIONS = ["ORIGIN 0", "ORIGIN 1", "VAR A NUM RANK 0", "VAR B CHAR RANK 8", "VAR F NUM RANK 1", "ORIGIN 2", "VAR A NUM", "⍝ x", ""]
+TYPED = ["VAR C NUM RANK 1", "VAR D CHAR RANK 1", "VAR E NUM RANK 0", "VAR T NUM RANK 2"]
+SIMPLE = ["0", "1", "3", "1 0", "1 2 3", "2 3", "¯2 0", "'x'", "'abc'", "''", "⎕NUMS", "⍞", "X", "Y", "A", "C", "D", "E", "T"]
+ONE = list("+-×⌈⌊~⍴,⍳⍉|⌽⊖") + ["+/", "∧\\", "×⌿", "⌽[1]", "⌈/[1]", "-\\[2]", "F "]
+TWO = list("+-×⌈⌊|=≠<≥∧⍲⍴⍴,,⍳∊↑↓⌽⊖⍉/\\⌿") + ["/[1]", "⌽[1]", "∘.+", "∘.=", "+.×", "∧.=", " G "]
+LEFT = ["0", "1", "2", "1 0", "2 3", "2 2 2", "¯1", "1 2", "2 1", "'a'", "X", "Y", "A", "C", "E", "(⍳2)", "(⍴X)"]
 
 
 class Sources:
@@ -92,6 +99,38 @@ class Sources:
             lines += self.function("∇" + f + local, lambda: self.call(names))
         return lines
 
+    def fitting(self, depth):
+        """A value of which most functions can take what stands to their right."""
+        if depth <= 0 or self.likely(0.25):
+            return self.pick(SIMPLE)
+        right = self.fitting(depth - 1)
+        return self.pick([
+            self.pick(ONE) + right, self.pick(ONE) + right, self.pick(LEFT) + self.pick(TWO) + right,
+            self.pick(LEFT) + self.pick(TWO) + right, "(" + self.fitting(depth - 2) + ")" + self.pick(TWO) + right,
+            self.pick("XYA") + "←" + right, "(" + right + ")[" + self.pick(["", "1", "1 2", "X"]) + self.pick(["", "", ";", ";1"]) + "]",
+            self.pick("XYAC") + "[" + self.pick(["1", "", "1;", "X"]) + "]←" + right, "⎕←" + right,
+        ])
+
+    def fitting_line(self):
+        value = self.fitting(self.pick([1, 2, 3]))
+        return self.pick([
+            self.pick("XYACDET") + "←" + value, self.pick("XY") + "←" + value, value, "P " + value, "→L", "→(" + value + ")/L",
+            "→(" + value + ")⍴L", "→" + value, "→" + str(self.random.randint(0, 5)), "",
+        ])
+
+    def typed(self):
+        """Functions that hand arrays to each other."""
+        lines = self.random.sample(TYPED, self.pick([0, 0, 1, 2, 4])) + self.pick([[], [], ["ORIGIN 0"]])
+        headers = ["∇MAIN", "∇R←F B", "∇R←V G B", "∇P B"]
+        for header in self.random.sample(headers, 4):
+            body = [self.fitting_line() for _ in range(self.random.randint(1, 5))]
+            if header.startswith("∇R"):
+                body.append("R←" + self.pick(["B", self.fitting(2)]))
+            labelled = self.random.randrange(len(body))
+            body[labelled] = "L:" + body[labelled]
+            lines += [header + self.pick([";X;Y", ";X;Y", ";X;Y", ";X", ""])] + body + ["∇"]
+        return lines
+
     def limits(self):
         """Nesting, nodes, lines and functions about as many as there may be."""
         count = self.random.randint(30, 34)
@@ -115,7 +154,8 @@ class Sources:
 
     def source(self):
         share = self.random.random()
-        lines = self.limits() if share < 0.01 else self.sums() if share < 0.3 else self.calls() if share < 0.55 else self.forms()
+        kinds = [(0.01, self.limits), (0.2, self.sums), (0.35, self.calls), (0.7, self.typed), (1, self.forms)]
+        lines = next(lines_of for most, lines_of in kinds if share < most)()
         end = self.pick(["\n", "\n", "\n", "\r\n"])
         source = (end.join(lines) + (end if self.likely(0.9) else "")).encode()
         if self.likely(0.05):

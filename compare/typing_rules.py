@@ -370,7 +370,8 @@ class Typing:
             self.raise_to((key, node.value), fact)
         fact = self.fact(("result", node.value)) if routine.result else None
         fact = None if None in facts else MIXED if any(map(is_mixed, facts)) else fact
-        self.check_read(fact, node.place)
+        if routine.result:
+            self.check_read(fact, node.place)
         return fact
 
     def mono(self, node, names):

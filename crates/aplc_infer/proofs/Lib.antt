@@ -1,0 +1,39 @@
+pub mod Trials
+pub mod Order
+pub mod Strict
+pub mod Rises
+pub mod Monotone
+pub mod RuleTools
+pub mod ScalarRules
+pub mod ShapeCounts
+pub mod ShapeRules
+pub mod JoinRules
+pub mod AxisTools
+pub mod PartRules
+pub mod OperatorRules
+pub mod IndexRules
+pub mod AxisNumbers
+pub mod Flows
+pub mod Entries
+pub mod AllRules
+pub mod Raised
+pub mod Pooled
+pub mod Rowed
+pub mod Numbered
+pub mod Stepping
+pub mod Moving
+mod RuleExamples
+pub mod Forms
+pub mod Names
+pub mod Declared
+mod TypingExamples
+pub mod Refused
+pub mod Kept
+pub mod Granted
+mod FlowExamples
+pub mod Verdicts
+pub mod Alongside
+pub mod Reasons
+pub mod Asks
+pub mod Climbing
+pub mod Existing

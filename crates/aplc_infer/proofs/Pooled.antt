@@ -1,0 +1,296 @@
+-- Facts in a pool, and what raising one does to the rows of numbers into it.
+use Rattle.std.proofs.Common.{◌≡◌, ◌∙◌, sym, ap, refl, subst, ℕ, zero, suc, ◌+◌, ◌<◌, ◌≤◌, List, [], ◌∷◌, ◌++◌, length, map, Option, Some, None, Bool, true, false, ◌&&◌, if◌then◌else◌, nat_eq, arith, set, get_or, slice_get, inl, inr, ◌⊎◌}
+use Rattle.std.specs.Prelude.{unwrap_or, replicate}
+use Rattle.std.proofs.lemmas.Bool.Decides.{nat_tests}
+use Rattle.std.proofs.lemmas.List.{map-set}
+use Rattle.std.proofs.lemmas.Option.{slice_get-get_or}
+use Rattle.aplc_infer.specs.declared.fact.FactKind.{FactKind}
+use Rattle.aplc_infer.specs.declared.fact.FactKind.TheVariants.{Bit, Num, Char, Mixed}
+use Rattle.aplc_infer.specs.declared.fact.Inferred.{Inferred}
+use Rattle.aplc_infer.specs.declared.fact.Inferred.TheVariants.{Unset, Of}
+use Rattle.aplc_infer.specs.Facts.{kind_below, length_below, lengths_below, shape_below, below, kind_join, length_join, lengths_join, shape_join, join, IsShort}
+use Rattle.aplc_infer.specs.Seeing.{at}
+use Rattle.aplc_infer.specs.Pools.{spelled, all_spelled, IsHoused, AreHoused, Grows, IsBlank, AreBlank}
+use Rattle.aplc_infer.specs.Rising.{look_or, at2, RowRises, RowsRise, room_row}
+use Rattle.aplc_infer.proofs.Trials.{left_true, right_true}
+use Rattle.aplc_infer.proofs.Order.{lengths_same}
+use Rattle.aplc_infer.proofs.Raised.{row_stays, row_rises, found_at, lifted}
+
+-- ---- Facts that lie below each other
+
+kind_same : (a b : FactKind) → kind_below a b ≡ true → kind_below b a ≡ true → a ≡ b
+kind_same Bit Bit h k = refl
+kind_same Bit Num h k = cc
+kind_same Bit Char h k = cc
+kind_same Bit Mixed h k = cc
+kind_same Num Bit h k = cc
+kind_same Num Num h k = refl
+kind_same Num Char h k = cc
+kind_same Num Mixed h k = cc
+kind_same Char Bit h k = cc
+kind_same Char Num h k = cc
+kind_same Char Char h k = refl
+kind_same Char Mixed h k = cc
+kind_same Mixed Bit h k = cc
+kind_same Mixed Num h k = cc
+kind_same Mixed Char h k = cc
+kind_same Mixed Mixed h k = refl
+
+equal_of : (m n : ℕ) → nat_eq m n ≡ true → m ≡ n
+equal_of m n h = grind (arith, nat_tests)
+
+equal_true : (m n : ℕ) → m ≡ n → nat_eq m n ≡ true
+equal_true m n h = grind (arith, nat_tests)
+
+length_same : (x y : Option ℕ) → length_below x y ≡ true → length_below y x ≡ true → x ≡ y
+length_same None None h k = refl
+length_same None (Some n) h k = cc
+length_same (Some m) None h k = cc
+length_same (Some m) (Some n) h k = ap (λ i. Some i) (equal_of m n h)
+
+each_same : (xs ys : List (Option ℕ)) → lengths_below xs ys ≡ true → lengths_below ys xs ≡ true → xs ≡ ys
+each_same [] [] h k = refl
+each_same [] (y ∷ ys) h k = cc
+each_same (x ∷ xs) [] h k = cc
+each_same (x ∷ xs) (y ∷ ys) h k =
+    ap (λ z. z ∷ xs) (length_same x y (left_true (length_below x y) (lengths_below xs ys) h) (left_true (length_below y x) (lengths_below ys xs) k))
+    ∙ ap (λ zs. y ∷ zs) (each_same xs ys (right_true (length_below x y) (lengths_below xs ys) h) (right_true (length_below y x) (lengths_below ys xs) k))
+
+shape_same : (s t : Option (List (Option ℕ))) → shape_below s t ≡ true → shape_below t s ≡ true → s ≡ t
+shape_same None None h k = refl
+shape_same None (Some ys) h k = cc
+shape_same (Some xs) None h k = cc
+shape_same (Some xs) (Some ys) h k = ap (λ zs. Some zs) (each_same xs ys h k)
+
+pub same_below : (f g : Inferred) → below f g ≡ true → below g f ≡ true → f ≡ g
+same_below Unset Unset h k = refl
+same_below Unset (Of b t) h k = cc
+same_below (Of a s) Unset h k = cc
+same_below (Of a s) (Of b t) h k =
+    ap (λ x. Of x s) (kind_same a b (left_true (kind_below a b) (shape_below s t) h) (left_true (kind_below b a) (shape_below t s) k))
+    ∙ ap (λ x. Of b x) (shape_same s t (right_true (kind_below a b) (shape_below s t) h) (right_true (kind_below b a) (shape_below t s) k))
+
+-- ---- The join with what is above
+
+kind_above : (a b : FactKind) → kind_below a b ≡ true → kind_join a b ≡ b
+kind_above Bit Bit h = refl
+kind_above Bit Num h = refl
+kind_above Bit Char h = cc
+kind_above Bit Mixed h = refl
+kind_above Num Bit h = cc
+kind_above Num Num h = refl
+kind_above Num Char h = cc
+kind_above Num Mixed h = refl
+kind_above Char Bit h = cc
+kind_above Char Num h = cc
+kind_above Char Char h = refl
+kind_above Char Mixed h = refl
+kind_above Mixed Bit h = cc
+kind_above Mixed Num h = cc
+kind_above Mixed Char h = cc
+kind_above Mixed Mixed h = refl
+
+length_above : (x y : Option ℕ) → length_below x y ≡ true → length_join x y ≡ y
+length_above None None h = refl
+length_above None (Some n) h = cc
+length_above (Some m) None h = refl
+length_above (Some m) (Some n) h = ap (λ b. if b then Some m else None) h ∙ ap (λ i. Some i) (equal_of m n h)
+
+each_above : (xs ys : List (Option ℕ)) → lengths_below xs ys ≡ true → lengths_join xs ys ≡ ys
+each_above [] [] h = refl
+each_above [] (y ∷ ys) h = cc
+each_above (x ∷ xs) [] h = cc
+each_above (x ∷ xs) (y ∷ ys) h =
+    ap (λ z. z ∷ lengths_join xs ys) (length_above x y (left_true (length_below x y) (lengths_below xs ys) h))
+    ∙ ap (λ zs. y ∷ zs) (each_above xs ys (right_true (length_below x y) (lengths_below xs ys) h))
+
+shape_above : (s t : Option (List (Option ℕ))) → shape_below s t ≡ true → shape_join s t ≡ t
+shape_above None None h = refl
+shape_above None (Some ys) h = cc
+shape_above (Some xs) None h = refl
+shape_above (Some xs) (Some ys) h =
+    ap (λ b. if b then Some (lengths_join xs ys) else None) (equal_true (length xs) (length ys) (lengths_same xs ys h))
+    ∙ ap (λ zs. Some zs) (each_above xs ys h)
+
+pub join_above : (f g : Inferred) → below f g ≡ true → join f g ≡ g
+join_above Unset g h = refl
+join_above (Of a s) Unset h = cc
+join_above (Of a s) (Of b t) h =
+    ap (λ x. Of x (shape_join s t)) (kind_above a b (left_true (kind_below a b) (shape_below s t) h))
+    ∙ ap (λ x. Of b x) (shape_above s t (right_true (kind_below a b) (shape_below s t) h))
+
+-- ---- The pool
+
+pub grows_none : (xs : List Inferred) → Grows xs xs
+grows_none xs = record { longer = omega arith; same = λ h w. refl }
+
+front_get : (xs ys : List Inferred) (h : ℕ) → h < length xs → at (xs ++ ys) h ≡ at xs h
+front_get [] ys h w = absurd (omega arith)
+front_get (x ∷ xs) ys zero w = refl
+front_get (x ∷ xs) ys (suc h) w = front_get xs ys h (omega arith)
+
+longer : (xs : List Inferred) (x : Inferred) → length xs ≤ length (xs ++ x ∷ [])
+longer [] x = omega arith
+longer (y ∷ xs) x = let h = longer xs x in omega arith
+
+pub grows_push : (xs : List Inferred) (x : Inferred) → Grows xs (xs ++ x ∷ [])
+grows_push xs x = record { longer = longer xs x; same = λ h w. front_get xs (x ∷ []) h w }
+
+pub at_push : (xs : List Inferred) (x : Inferred) → at (xs ++ x ∷ []) (length xs) ≡ x
+at_push [] x = refl
+at_push (y ∷ xs) x = at_push xs x
+
+pub within_push : (xs : List Inferred) (x : Inferred) → length xs < length (xs ++ x ∷ [])
+within_push [] x = omega arith
+within_push (y ∷ xs) x = let h = within_push xs x in omega arith
+
+pub at_index : (xs : List Inferred) (k : ℕ) (x : Inferred) → k < length xs → x ≡ get_or xs k x → at xs k ≡ x
+at_index xs k x w e = ap (λ o. unwrap_or o Unset) (found_at xs k x w e)
+
+-- ---- A row of numbers
+
+pub spelled_grown : (p q : List Inferred) (hs : List ℕ) → Grows p q → IsHoused (length p) hs → spelled q hs ≡ spelled p hs
+spelled_grown p q [] g u = refl
+spelled_grown p q (h ∷ hs) g u = ap (λ x. x ∷ spelled q hs) (g.same h u.0) ∙ ap (λ xs. at p h ∷ xs) (spelled_grown p q hs g u.1)
+
+most : (h m n : ℕ) → h < m → m ≤ n → h < n
+most h m n a b = omega arith
+
+pub housed_grown : (p q : List Inferred) (hs : List ℕ) → Grows p q → IsHoused (length p) hs → IsHoused (length q) hs
+housed_grown p q [] g u = tt
+housed_grown p q (h ∷ hs) g u = (most h (length p) (length q) u.0 g.longer, housed_grown p q hs g u.1)
+
+pub housed_set : (n : ℕ) (hs : List ℕ) (k h : ℕ) → h < n → IsHoused n hs → IsHoused n (set hs k h)
+housed_set n [] k h w u = tt
+housed_set n (x ∷ hs) zero h w u = (w, u.1)
+housed_set n (x ∷ hs) (suc k) h w u = (u.0, housed_set n hs k h w u.1)
+
+abbrev option_of : {A B : Type 0} → (A → B) → Option A → Option B
+option_of f None = None
+option_of f (Some z) = Some (f z)
+
+none_some : {A : Type 0} (x : A) → None ≡ Some x → ⊥
+none_some x e = cc
+
+same_some : {A : Type 0} (x y : A) → Some x ≡ Some y → x ≡ y
+same_some x y e = cc
+
+pub map_get : {A B : Type 0} (f : A → B) (xs : List A) (k : ℕ) (x : A) → slice_get xs k ≡ Some x → slice_get (map f xs) k ≡ Some (f x)
+map_get f [] k x e = absurd (none_some x e)
+map_get f (y ∷ xs) zero x e = ap (λ o. option_of f o) e
+map_get f (y ∷ xs) (suc k) x e = map_get f xs k x e
+
+pub housed_at : (n : ℕ) (hs : List ℕ) (k h : ℕ) → slice_get hs k ≡ Some h → IsHoused n hs → h < n
+housed_at n [] k h e u = absurd (none_some h e)
+housed_at n (x ∷ hs) zero h e u = subst (λ y. y < n) (same_some x h e) u.0
+housed_at n (x ∷ hs) (suc k) h e u = housed_at n hs k h e u.1
+
+pub row_stayed : (p : List Inferred) (hs : List ℕ) (k h : ℕ) (x f : Inferred) (b : Bool) → k < length hs → h ≡ get_or hs k h → x ≡ at p h → b ≡ below f x → b ≡ true → RowRises (spelled p hs) (spelled p hs) k f false
+row_stayed p hs k h x f b w e is t n =
+    let here : slice_get hs k ≡ Some h = slice_get-get_or hs k h w ∙ ap (λ y. Some y) (sym e) in
+    row_stays (spelled p hs) k (at p h) f (map_get (at p) hs k h here) (ap (λ y. below f y) (sym is) ∙ sym t ∙ n)
+
+pub row_lifted : (p q : List Inferred) (hs : List ℕ) (k h n : ℕ) (x f : Inferred) (b : Bool) → IsHoused (length p) hs → Grows p q → k < length hs → h ≡ get_or hs k h → x ≡ at p h → b ≡ below f x → b ≡ false → IsShort f → at q n ≡ join x f → RowRises (spelled p hs) (spelled q (set hs k n)) k f true
+row_lifted p q hs k h n x f b u g w e is t l s j =
+    let here : slice_get hs k ≡ Some h = slice_get-get_or hs k h w ∙ ap (λ y. Some y) (sym e) in
+    let new : spelled q (set hs k n) ≡ set (spelled p hs) k (join (at p h) f) = map-set (at q) hs k n ∙ ap (λ xs. set xs k (at q n)) (spelled_grown p q hs g u) ∙ ap (λ y. set (spelled p hs) k y) (j ∙ ap (λ y. join y f) is) in
+    subst (λ xs. RowRises (spelled p hs) xs k f true) (sym new) (row_rises (spelled p hs) k (at p h) f (map_get (at p) hs k h here) (ap (λ y. below f y) (sym is) ∙ sym t ∙ l) s)
+
+-- ---- Rows
+
+pub all_grown : (p q : List Inferred) (rs : List (List ℕ)) → Grows p q → AreHoused (length p) rs → all_spelled q rs ≡ all_spelled p rs
+all_grown p q [] g u = refl
+all_grown p q (r ∷ rs) g u = ap (λ x. x ∷ all_spelled q rs) (spelled_grown p q r g u.0) ∙ ap (λ xs. spelled p r ∷ xs) (all_grown p q rs g u.1)
+
+pub all_housed : (p q : List Inferred) (rs : List (List ℕ)) → Grows p q → AreHoused (length p) rs → AreHoused (length q) rs
+all_housed p q [] g u = tt
+all_housed p q (r ∷ rs) g u = (housed_grown p q r g u.0, all_housed p q rs g u.1)
+
+pub rows_set : (n : ℕ) (rs : List (List ℕ)) (l : ℕ) (r : List ℕ) → IsHoused n r → AreHoused n rs → AreHoused n (set rs l r)
+rows_set n [] l r h u = tt
+rows_set n (x ∷ rs) zero r h u = (h, u.1)
+rows_set n (x ∷ rs) (suc l) r h u = (u.0, rows_set n rs l r h u.1)
+
+pub row_housed : (n : ℕ) (rs : List (List ℕ)) (l : ℕ) (r : List ℕ) → slice_get rs l ≡ Some r → AreHoused n rs → IsHoused n r
+row_housed n [] l r e u = absurd (none_some r e)
+row_housed n (x ∷ rs) zero r e u = subst (λ y. IsHoused n y) (same_some x r e) u.0
+row_housed n (x ∷ rs) (suc l) r e u = row_housed n rs l r e u.1
+
+pub row_there : (n : ℕ) (rs : List (List ℕ)) (l : ℕ) (r : List ℕ) → l < length rs → r ≡ get_or rs l r → AreHoused n rs → IsHoused n r
+row_there n rs l r w e u = row_housed n rs l r (found_at rs l r w e) u
+
+pub number_there : (n : ℕ) (r : List ℕ) (k h : ℕ) → k < length r → h ≡ get_or r k h → IsHoused n r → h < n
+number_there n r k h w e u = housed_at n r k h (found_at r k h w e) u
+
+-- one row rose, in the code's own shape
+pub block_rose : (xs : List (List Inferred)) (p q : List Inferred) (rs : List (List ℕ)) (l : ℕ) (r s : List ℕ) (k : ℕ) (f : Inferred) (rose : Bool) → xs ≡ all_spelled p rs → AreHoused (length p) rs → l < length rs → r ≡ get_or rs l r → Grows p q → RowRises (spelled p r) (spelled q s) k f rose → RowsRise xs (all_spelled q (set rs l s)) (l, k) f rose
+block_rose xs p q rs l r s k f rose same u w e g x =
+    let here : slice_get rs l ≡ Some r = found_at rs l r w e in
+    let new : all_spelled q (set rs l s) ≡ set (all_spelled p rs) l (spelled q s) = map-set (spelled q) rs l s ∙ ap (λ ys. set ys l (spelled q s)) (all_grown p q rs g u) in
+    subst (λ ys. RowsRise ys (all_spelled q (set rs l s)) (l, k) f rose) (sym same)
+    (subst (λ ys. RowsRise (all_spelled p rs) ys (l, k) f rose) (sym new)
+    (lifted at room_row (all_spelled p rs) l (spelled p r) (spelled q s) k f rose (map_get (spelled p) rs l r here) x))
+
+pub block_at : (xs : List (List Inferred)) (p : List Inferred) (rs : List (List ℕ)) (l : ℕ) (r : List ℕ) (k h : ℕ) → xs ≡ all_spelled p rs → l < length rs → r ≡ get_or rs l r → k < length r → h ≡ get_or r k h → at2 xs (l, k) ≡ at p h
+block_at xs p rs l r k h same w e v d =
+    ap (λ ys. at2 ys (l, k)) same
+    ∙ ap (λ o. look_or at o k) (map_get (spelled p) rs l r (found_at rs l r w e))
+    ∙ ap (λ o. unwrap_or o Unset) (map_get (at p) r k h (found_at r k h v d))
+
+-- ---- Where nothing is set
+
+pub blank_numbers : (n : ℕ) → IsBlank (replicate n 0)
+blank_numbers zero = tt
+blank_numbers (suc n) = (refl, blank_numbers n)
+
+pub blank_more : (rs : List (List ℕ)) (r : List ℕ) (n : ℕ) → r ≡ replicate n 0 → AreBlank rs → AreBlank (rs ++ r ∷ [])
+blank_more [] r n e u = (subst (λ x. IsBlank x) (sym e) (blank_numbers n), tt)
+blank_more (x ∷ rs) r n e u = (u.0, blank_more rs r n e u.1)
+
+blank_housed : (hs : List ℕ) (n : ℕ) → 0 < n → IsBlank hs → IsHoused n hs
+blank_housed [] n w u = tt
+blank_housed (h ∷ hs) n w u = (subst (λ x. x < n) (sym u.0) w, blank_housed hs n w u.1)
+
+pub blanks_housed : (rs : List (List ℕ)) (n : ℕ) → 0 < n → AreBlank rs → AreHoused n rs
+blanks_housed [] n w u = tt
+blanks_housed (r ∷ rs) n w u = (blank_housed r n w u.0, blanks_housed rs n w u.1)
+
+blank_at : (p : List Inferred) (hs : List ℕ) (k : ℕ) → at p 0 ≡ Unset → IsBlank hs → at (spelled p hs) k ≡ Unset
+blank_at p [] k e u = refl
+blank_at p (h ∷ hs) zero e u = ap (λ x. at p x) u.0 ∙ e
+blank_at p (h ∷ hs) (suc k) e u = blank_at p hs k e u.1
+
+blanks_at : (p : List Inferred) (rs : List (List ℕ)) (l k : ℕ) → at p 0 ≡ Unset → AreBlank rs → at2 (all_spelled p rs) (l, k) ≡ Unset
+blanks_at p [] l k e u = refl
+blanks_at p (r ∷ rs) zero k e u = blank_at p r k e u.0
+blanks_at p (r ∷ rs) (suc l) k e u = blanks_at p rs l k e u.1
+
+pub block_blank : (p : List Inferred) (rs : List (List ℕ)) → p ≡ Unset ∷ [] → AreBlank rs → (i : ℕ × ℕ) → at2 (all_spelled p rs) i ≡ Unset
+block_blank p rs e u i = blanks_at p rs i.0 i.1 (ap (λ x. at x 0) e) u
+
+pub ruleset pools = (grows_none, grows_push, at_push, within_push)
+
+pub ruleset raises = (grows_none, housed_grown, housed_set, row_stayed, row_lifted)
+
+-- ---- Beyond a row
+
+beyond_row : (p : List Inferred) (hs : List ℕ) (k : ℕ) → length hs ≤ k → at (spelled p hs) k ≡ Unset
+beyond_row p [] k w = refl
+beyond_row p (h ∷ hs) zero w = absurd (omega arith)
+beyond_row p (h ∷ hs) (suc k) w = beyond_row p hs k (omega arith)
+
+none_there : (p : List Inferred) (rs : List (List ℕ)) (l k : ℕ) → slice_get rs l ≡ None → at2 (all_spelled p rs) (l, k) ≡ Unset
+none_there p [] l k e = refl
+none_there p (r ∷ rs) zero k e = absurd (some_none r e)
+  where
+    some_none : (x : List ℕ) → Some x ≡ None → ⊥
+    some_none x e = cc
+none_there p (r ∷ rs) (suc l) k e = none_there p rs l k e
+
+pub width_none : (xs : List (List Inferred)) (p : List Inferred) (rs : List (List ℕ)) (l : ℕ) → xs ≡ all_spelled p rs → slice_get rs l ≡ None → (k : ℕ) → 0 ≤ k → at2 xs (l, k) ≡ Unset
+width_none xs p rs l e f k w = ap (λ ys. at2 ys (l, k)) e ∙ none_there p rs l k f
+
+pub width_some : (xs : List (List Inferred)) (p : List Inferred) (rs : List (List ℕ)) (l n : ℕ) (r : List ℕ) → xs ≡ all_spelled p rs → slice_get rs l ≡ Some r → n ≡ length r → (k : ℕ) → n ≤ k → at2 xs (l, k) ≡ Unset
+width_some xs p rs l n r e f g k w = ap (λ ys. at2 ys (l, k)) e ∙ ap (λ o. look_or at o k) (map_get (spelled p) rs l r f) ∙ beyond_row p r k (subst (λ m. m ≤ k) g w)
+
+pub ruleset widths = (width_none, width_some)

@@ -1,0 +1,5 @@
+-- The number falls.
+use Rattle.aplc_infer.proofs.rules.+put_unknown.Given as goal
+
+abbrev pub decreases-put_unknown : goal.decreases-put_unknown
+decreases-put_unknown l = l.count

@@ -1,0 +1,6 @@
+-- What meets the rules is still above.
+use Rattle.aplc_infer.specs.Steps.{Keeps}
+use Rattle.aplc_infer.proofs.searching.drain.Given as goal
+
+abbrev pub invariant-loop : goal.invariant-loop
+invariant-loop l = Keeps l.lookup l.fn.tables l.tables

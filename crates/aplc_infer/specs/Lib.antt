@@ -1,0 +1,16 @@
+pub mod Facts
+pub mod Rules
+pub mod Orders
+pub mod Seeing
+pub mod Families
+pub mod Lookups
+pub mod RulesRise
+pub mod Rising
+pub mod Pools
+pub mod Rows
+pub mod Tables
+pub mod Steps
+pub mod Refusals
+pub mod Shown
+pub mod Mentions
+pub mod Stopped

@@ -1,0 +1,40 @@
+//! The facts of a program: kind, rank and lengths of every value, or its first refusal by the typing rules.
+//! It must not know how a program runs, nor what text is made of it.
+#![tactic(auto)]
+
+mod agenda;
+mod block;
+mod branches;
+mod cell;
+mod fact;
+mod facts;
+mod flowing;
+mod functions;
+mod indexes;
+mod inference;
+mod inferring;
+mod joins;
+mod laws;
+mod literals;
+mod locals;
+mod lookup;
+mod operators;
+mod parts;
+mod refusals;
+mod row;
+mod rule_break;
+mod rules;
+mod scalars;
+mod searching;
+mod seeing;
+mod shapes;
+mod tables;
+mod walk;
+
+pub use cell::{Binding, Cell, Demand, Flow};
+pub use fact::{FactKind, Inferred, Lengths};
+pub use facts::{Fact, Facts};
+pub use inferring::infer;
+pub use laws::{always_one, one_refusal, refusals_have_reasons, typed_or_refused};
+pub use rule_break::RuleBreak;
+pub use walk::Walk;

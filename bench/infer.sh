@@ -66,9 +66,12 @@ globals() { # NAMES: each from the one after it
     print "∇MAIN"
     for (k = 0; k < names; k++) {
       if (k % 900 == 899) print "∇\n∇F" ++f
-      printf "G%d←G%d\n", k, k + 1
+      print name(k) "←" name(k + 1)
     }
-    printf "G%d←⍳3\n∇\n", names
+    print name(names) "←⍳3\n∇"
+  }
+  function name(k) {
+    return substr("ABCDEFGHIJKLMNOPQRSTUVWXYZabcdef", k % 32 + 1, 1) substr("ABCDEFGHIJKLMNOPQRSTUVWXYZabcdef", int(k / 32) % 32 + 1, 1) substr("abcdefghijklmnopqrstuvwxyzABCDEF", int(k / 1024) + 1, 1)
   }'
 }
 

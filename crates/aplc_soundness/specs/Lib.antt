@@ -1,0 +1,6 @@
+pub mod Exact
+pub mod FactLaws
+pub mod Holding
+pub mod Passing
+pub mod RulesHold
+pub mod Taking

@@ -185,16 +185,16 @@ housed_at n [] k h e u = absurd (none_some h e)
 housed_at n (x ∷ hs) zero h e u = subst (λ y. y < n) (same_some x h e) u.0
 housed_at n (x ∷ hs) (suc k) h e u = housed_at n hs k h e u.1
 
-pub row_stayed : (p : List Inferred) (hs : List ℕ) (k h : ℕ) (x f : Inferred) (b : Bool) → k < length hs → h ≡ get_or hs k h → x ≡ at p h → b ≡ below f x → b ≡ true → RowRises (spelled p hs) (spelled p hs) k f false
-row_stayed p hs k h x f b w e is t n =
+pub row_stayed : (p : List Inferred) (hs : List ℕ) (k h : ℕ) (f : Inferred) (b : Bool) → k < length hs → h ≡ get_or hs k h → b ≡ below f (at p h) → b ≡ true → RowRises (spelled p hs) (spelled p hs) k f false
+row_stayed p hs k h f b w e t n =
     let here : slice_get hs k ≡ Some h = slice_get-get_or hs k h w ∙ ap (λ y. Some y) (sym e) in
-    row_stays (spelled p hs) k (at p h) f (map_get (at p) hs k h here) (ap (λ y. below f y) (sym is) ∙ sym t ∙ n)
+    row_stays (spelled p hs) k (at p h) f (map_get (at p) hs k h here) (sym t ∙ n)
 
-pub row_lifted : (p q : List Inferred) (hs : List ℕ) (k h n : ℕ) (x f : Inferred) (b : Bool) → IsHoused (length p) hs → Grows p q → k < length hs → h ≡ get_or hs k h → x ≡ at p h → b ≡ below f x → b ≡ false → IsShort f → at q n ≡ join x f → RowRises (spelled p hs) (spelled q (set hs k n)) k f true
-row_lifted p q hs k h n x f b u g w e is t l s j =
+pub row_lifted : (p q : List Inferred) (hs : List ℕ) (k h n : ℕ) (f : Inferred) (b : Bool) → IsHoused (length p) hs → Grows p q → k < length hs → h ≡ get_or hs k h → b ≡ below f (at p h) → b ≡ false → IsShort f → at q n ≡ join (at p h) f → RowRises (spelled p hs) (spelled q (set hs k n)) k f true
+row_lifted p q hs k h n f b u g w e t l s j =
     let here : slice_get hs k ≡ Some h = slice_get-get_or hs k h w ∙ ap (λ y. Some y) (sym e) in
-    let new : spelled q (set hs k n) ≡ set (spelled p hs) k (join (at p h) f) = map-set (at q) hs k n ∙ ap (λ xs. set xs k (at q n)) (spelled_grown p q hs g u) ∙ ap (λ y. set (spelled p hs) k y) (j ∙ ap (λ y. join y f) is) in
-    subst (λ xs. RowRises (spelled p hs) xs k f true) (sym new) (row_rises (spelled p hs) k (at p h) f (map_get (at p) hs k h here) (ap (λ y. below f y) (sym is) ∙ sym t ∙ l) s)
+    let new : spelled q (set hs k n) ≡ set (spelled p hs) k (join (at p h) f) = map-set (at q) hs k n ∙ ap (λ xs. set xs k (at q n)) (spelled_grown p q hs g u) ∙ ap (λ y. set (spelled p hs) k y) j in
+    subst (λ xs. RowRises (spelled p hs) xs k f true) (sym new) (row_rises (spelled p hs) k (at p h) f (map_get (at p) hs k h here) (sym t ∙ l) s)
 
 -- ---- Rows
 

@@ -3,7 +3,7 @@
 
 ghost use Rattle.std.specs.Prelude.{◌≡◌, ◌<◌, ◌≤◌, ◌++◌, ◌∷◌, [], ℕ, true, length, set, replicate, get_or, IfOk, IfSome};
 ghost use Rattle.aplc_infer.specs.declared.fact.Inferred.TheVariants.{Unset};
-ghost use Rattle.aplc_infer.specs.Facts.{below, join};
+ghost use Rattle.aplc_infer.specs.Facts.{below, join, IsShort};
 ghost use Rattle.aplc_infer.specs.Seeing.{at};
 ghost use Rattle.aplc_infer.specs.Pools.{spelled, Grows, IsHoused, AreBlank};
 ghost use Rattle.aplc_infer.specs.Rising.{at2, RowRises, RowsRise};
@@ -74,6 +74,36 @@ fn fact_at(pool: &[Inferred], number: u32) -> Inferred
     match pool.get(number as usize) {
         None => Inferred::Unset,
         Some(fact) => fact.copy(),
+    }
+}
+
+/// A fact lies below the one of this number.
+fn lies_below(pool: &[Inferred], fact: &Inferred, number: u32) -> bool
+    ensures { result ≡ below fact.now (at pool.now number) }
+{
+    match pool.get(number as usize) {
+        None => fact.is_below(&Inferred::Unset),
+        Some(other) => fact.is_below(other),
+    }
+}
+
+/// The fact of one number lies below that of another.
+fn is_covered(pool: &[Inferred], from: u32, number: u32) -> bool
+    ensures { result ≡ below (at pool.now from) (at pool.now number) }
+{
+    match pool.get(from as usize) {
+        None => true,
+        Some(fact) => lies_below(pool, fact, number),
+    }
+}
+
+/// No fact has more than eight lengths.
+fn is_short(pool: &[Inferred], number: u32) -> bool
+    ensures { IsShort (at pool.now number) }
+{
+    match pool.get(number as usize) {
+        None => true,
+        Some(fact) => fact.is_short(),
     }
 }
 
@@ -149,13 +179,14 @@ fn raise_in(
     if k >= row.len() {
         return Err(AllocError);
     }
-    let old = fact_at(pool.as_slice(), row.at(k));
-    if fact.is_below(&old) {
+    let number = row.at(k);
+    if lies_below(pool.as_slice(), fact, number) {
         return Ok(false);
     }
     let _short = fact.is_short();
-    let number = house(pool, old.join(fact))?;
-    row.set(k, number);
+    let old = fact_at(pool.as_slice(), number);
+    let new = house(pool, old.join(fact))?;
+    row.set(k, new);
     Ok(true)
 }
 
@@ -177,14 +208,12 @@ fn pass_in(
         return Err(AllocError);
     }
     let number = row.at(k);
-    let fact = fact_at(pool.as_slice(), from);
-    let old = fact_at(pool.as_slice(), number);
-    if fact.is_below(&old) {
+    if is_covered(pool.as_slice(), from, number) {
         return Ok(false);
     }
-    let _short = fact.is_short();
-    let number = joined(pool, number, from)?;
-    row.set(k, number);
+    let _short = is_short(pool.as_slice(), from);
+    let new = joined(pool, number, from)?;
+    row.set(k, new);
     Ok(true)
 }
 

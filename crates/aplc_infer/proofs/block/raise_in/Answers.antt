@@ -1,4 +1,4 @@
-use Rattle.std.proofs.Common.{rules, ◌≡◌, ◌∙◌, sym, ap, subst, true, arith}
+use Rattle.std.proofs.Common.{rules, ◌≡◌, sym, subst, true, arith}
 use Rattle.aplc_infer.specs.Facts.{below, join}
 use Rattle.aplc_infer.specs.Seeing.{at}
 use Rattle.aplc_infer.specs.Pools.{spelled}
@@ -11,8 +11,7 @@ returns-clause-rises c =
     let p = c.args.pool.now.items in
     let q = c.house.new.pool.items in
     let hs = c.args.row.now in
-    let old : c.fact_at-old.result ≡ at p c.at.result = search rules in
-    let test : c.is_below.result ≡ below c.args.fact.now c.fact_at-old.result = search rules in
-    let made : at q c.in_ok-number.number ≡ join c.fact_at-old.result c.args.fact.now = search rules in
+    let test : c.lies_below.result ≡ below c.args.fact.now (at p c.at-number.result) = search rules in
+    let made : at q c.in_ok-new.new ≡ join (at p c.at-number.result) c.args.fact.now = search rules in
     subst (λ rs. RowRises (spelled p hs) (spelled q rs) c.args.k c.args.fact.now true) (sym c.set.ensures)
-    (row_lifted p q hs c.args.k c.at.result c.in_ok-number.number c.fact_at-old.result c.args.fact.now c.is_below.result c.requires.housed c.in_ok-number.ensures.grows (omega arith) c.at.ensures old test c.if-is_below.false c.is_short-short.ensures made)
+    (row_lifted p q hs c.args.k c.at-number.result c.in_ok-new.new c.args.fact.now c.lies_below.result c.requires.housed c.in_ok-new.ensures.grows (omega arith) c.at-number.ensures test c.if-lies_below.false c.is_short-short.ensures made)

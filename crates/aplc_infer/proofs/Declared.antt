@@ -1,5 +1,5 @@
 -- The facts of declared names, found by a list of the names.
-use Rattle.std.proofs.Common.{◌≡◌, ◌∙◌, sym, ap, refl, subst, ℕ, zero, suc, ◌+◌, ◌≤◌, ◌<◌, List, [], ◌∷◌, length, map, get_or, Option, Some, None, Bool, true, false, cond, nat_eq, nat_lt, if◌then◌else◌, arith, position}
+use Rattle.std.proofs.Common.{◌≡◌, ◌∙◌, sym, ap, refl, ℕ, suc, ◌+◌, List, [], ◌∷◌, length, map, get_or, Option, Some, None, Bool, true, false, cond, nat_eq, nat_lt, if◌then◌else◌, arith}
 use Rattle.std.specs.List.{position_or_len}
 use Rattle.std.proofs.lemmas.Bool.Decides.{nat_tests}
 use Rattle.std.proofs.lemmas.List.Recursion.{is_position_or_len}

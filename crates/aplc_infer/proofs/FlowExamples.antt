@@ -1,5 +1,5 @@
 -- Where lines lead and what facts join to, computed.
-use Rattle.std.proofs.Common.{◌≡◌, refl, ℕ, zero, suc, List, [], ◌∷◌, Some, None, true, false}
+use Rattle.std.proofs.Common.{◌≡◌, refl, ℕ, zero, suc, [], ◌∷◌, Some, None, true, false}
 use Rattle.std.specs.Prelude.{pos, negsuc}
 use Rattle.aplc_syntax.specs.declared.tree.Axis.TheVariants as ax
 use Rattle.aplc_syntax.specs.declared.tree.Primitive.{Primitive}

@@ -12,7 +12,7 @@ use Rattle.aplc_names.specs.PlainPrograms.{quiet_of}
 use Rattle.aplc_infer.specs.declared.fact.Inferred.TheVariants.{Unset}
 use Rattle.aplc_infer.specs.declared.cell.Cell.TheVariants as cell
 use Rattle.aplc_infer.specs.Rules.{literal_of, monadic_fact, dyadic_fact, index_fact}
-use Rattle.aplc_infer.specs.Seeing.{Family, Context, Progress, Seen, name_fact, settles, ruled, denied_read, change_name, function_of, call_fact, passed, asked, see, see_all, see_argument, see_statement}
+use Rattle.aplc_infer.specs.Seeing.{Family, Context, Progress, name_fact, settles, ruled, denied_read, change_name, function_of, call_fact, passed, asked, see, see_all, see_argument, see_statement}
 
 module _ (c : Context) (g : Family) where
   -- a node that is another one, after what is other progress

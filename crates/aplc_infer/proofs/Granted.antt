@@ -1,5 +1,5 @@
 -- Work in whatever order: what families that meet the rules grant to it.
-use Rattle.std.proofs.Common.{◌≡◌, ◌∙◌, sym, ap, refl, subst, ℕ, zero, suc, ◌+◌, ◌-◌, ◌<◌, ◌≤◌, List, [], ◌∷◌, ◌++◌, length, map, Option, Some, None, Bool, true, false, ◌||◌, nat_eq, arith, inl, inr, ◌⊎◌, set, slice_get, get_or, is_some}
+use Rattle.std.proofs.Common.{◌≡◌, ◌∙◌, sym, ap, refl, subst, ℕ, zero, suc, ◌+◌, ◌-◌, ◌<◌, ◌≤◌, List, [], ◌∷◌, ◌++◌, length, Some, Bool, true, false, ◌||◌, nat_eq, arith, inl, inr, ◌⊎◌, set, slice_get, get_or}
 use Rattle.std.proofs.lemmas.Bool.Decides.{nat_tests}
 use Rattle.aplc_arr.specs.Delayed.{first_n}
 use Rattle.aplc_arr.proofs.Places.{length-first_n}
@@ -25,8 +25,8 @@ use Rattle.aplc_infer.specs.Seeing.{Family, declarations, context_of, local_name
 use Rattle.aplc_infer.specs.Lookups.{routine_at, binding_at, context_at}
 use Rattle.aplc_infer.specs.Families.{AreMet, at_start}
 use Rattle.aplc_infer.specs.Mentions.{assigned_numbers}
-use Rattle.aplc_infer.specs.Tables.{look, family_of, room_of, spot_in, TablesRise}
-use Rattle.aplc_infer.specs.Steps.{Meets, seen_in, IsFunction, IsLineOf, Lands, Goes, Gone, IsUnder, Steps, Settles, Landed, HasGone, Spreads, AreBelow, Keeps}
+use Rattle.aplc_infer.specs.Tables.{look, family_of, spot_in, TablesRise}
+use Rattle.aplc_infer.specs.Steps.{Meets, seen_in, IsFunction, IsLineOf, Lands, Goes, Gone, IsUnder, Settles, Landed, HasGone, Spreads, AreBelow, Keeps}
 use Rattle.aplc_infer.proofs.Order.{below_refl, below_trans}
 use Rattle.aplc_infer.proofs.Monotone.{NamesBelow, names_at, names_set, names_first, Follows}
 use Rattle.aplc_infer.proofs.Kept.{kept}

@@ -1,11 +1,9 @@
 -- What the evaluation of a line asks and refuses rises with the family of facts.
-use Rattle.std.proofs.Common.{◌≡◌, ◌∙◌, sym, ap, refl, ℕ, zero, suc, List, [], ◌∷◌, ◌++◌, length, Option, Some, None, Ok, Err, Bool, true, false, ◌&&◌, ◌||◌, set}
-use Rattle.std.specs.Prelude.{ℤ, slice_get, unwrap_or}
-use Rattle.aplc_lex.specs.declared.token.Refusal.{Refusal}
+use Rattle.std.proofs.Common.{◌≡◌, ◌∙◌, sym, refl, ℕ, zero, suc, List, [], ◌∷◌, ◌++◌, Option, Some, None, Ok, Err, Bool, true, false, ◌||◌, set}
+use Rattle.std.specs.Prelude.{unwrap_or}
 use Rattle.aplc_syntax.specs.PlainTrees.{Tree, Numbers, Text, Name, TextInput, NumsInput, Mono, Dyad, Index, Assign, AssignAt, Show, Call, Trees, no_more, left_out, and_tree, Argument, absent, given}
 use Rattle.aplc_arr.specs.Delayed.{first_n}
 use Rattle.aplc_names.specs.PlainPrograms.{Action, nothing, quiet, perform, display, branch}
-use Rattle.aplc_infer.specs.declared.fact.FactKind.{FactKind}
 use Rattle.aplc_infer.specs.declared.fact.Inferred.{Inferred}
 use Rattle.aplc_infer.specs.declared.fact.Inferred.TheVariants.{Unset, Of}
 use Rattle.aplc_infer.specs.declared.rule_break.RuleBreak.{RuleBreak}
@@ -16,14 +14,14 @@ use Rattle.aplc_infer.specs.declared.cell.Demand.{Demand}
 use Rattle.aplc_infer.specs.declared.cell.Binding.{Binding}
 use Rattle.aplc_infer.specs.declared.cell.Binding.TheVariants as binds
 use Rattle.aplc_infer.specs.Facts.{below, mixed, is_unset, is_mixed, settled}
-use Rattle.aplc_infer.specs.Rules.{number_of, Ruled, fact_of, Sort, sort, strict1, strict2, strict_list, any_fact, Literal, literal_of, literal_kind, literal_lengths, is_bit, numbers_fact, text_fact, input_text_fact, input_numbers_fact, monadic_rule, dyadic_rule, index_rule, change_rule, monadic_fact, dyadic_fact, index_fact, change_fact, left_fact, branch_rule, branch_fact}
-use Rattle.aplc_infer.specs.Orders.{below_result, clear_result, entries_below, plain_below, IsRising1}
-use Rattle.aplc_infer.specs.Seeing.{Family, Context, Progress, Seen, SeenAll, SeenArgument, demand, asked, asked_for, denied, denied_by, denied_if, denied_read, mixed_break, with_name, settles, ruled, at, name_fact, assign_declared, assign_global, assign_to, change_name, function_of, call_by, call_fact, passed, see, see_all, see_argument, see_statement}
+use Rattle.aplc_infer.specs.Rules.{Ruled, fact_of, sort, strict1, any_fact, literal_of, literal_kind, literal_lengths, numbers_fact, text_fact, input_text_fact, input_numbers_fact, monadic_rule, dyadic_rule, index_rule, change_rule, monadic_fact, dyadic_fact, index_fact, change_fact, left_fact, branch_rule, branch_fact}
+use Rattle.aplc_infer.specs.Orders.{below_result, clear_result, entries_below, IsRising1}
+use Rattle.aplc_infer.specs.Seeing.{Family, Context, Progress, Seen, SeenAll, SeenArgument, demand, asked, asked_for, denied, denied_by, denied_if, denied_read, mixed_break, with_name, settles, ruled, at, name_fact, assign_declared, assign_global, assign_to, function_of, call_by, call_fact, passed, see, see_all, see_argument, see_statement}
 use Rattle.aplc_infer.specs.Families.{AreMet, IsBelow}
 use Rattle.aplc_infer.specs.RulesRise.{RulesRise}
-use Rattle.aplc_infer.proofs.Trials.{both_true, left_true, right_true, unequal, not_true}
+use Rattle.aplc_infer.proofs.Trials.{both_true, left_true, unequal, not_true}
 use Rattle.aplc_infer.proofs.Order.{below_refl, below_trans}
-use Rattle.aplc_infer.proofs.Strict.{below_mixed, below_clear, sort_rises, clear_sort, results_rise, strict1_facts, strict1_fine, strict1_clear, strict2_facts, strict2_fine, strict2_clear, strict_list_facts, strict_list_fine, strict_list_clear, settled_rises, settled_clear, neither, unset_entries, clear_entries}
+use Rattle.aplc_infer.proofs.Strict.{below_mixed, below_clear, sort_rises, clear_sort, strict1_facts, strict1_fine, strict1_clear, strict2_facts, strict2_fine, strict2_clear, strict_list_facts, strict_list_fine, strict_list_clear, settled_rises, settled_clear, neither, unset_entries, clear_entries}
 
 -- ---- Lists of facts
 

@@ -1,5 +1,5 @@
 -- What the rules grant: lines, functions, passes, and the least family at the end.
-use Rattle.std.proofs.Common.{◌≡◌, ◌∙◌, sym, ap, refl, subst, ℕ, zero, suc, ◌+◌, ◌<◌, ◌≤◌, List, [], ◌∷◌, length, map, Option, Some, None, Bool, true, false, ◌||◌, nat_eq, arith, inl, inr, ◌⊎◌, get_or, set, slice_get, is_some, option_map}
+use Rattle.std.proofs.Common.{◌≡◌, ◌∙◌, sym, ap, refl, subst, ℕ, zero, suc, ◌+◌, ◌<◌, ◌≤◌, List, [], ◌∷◌, length, map, Option, Some, None, Bool, true, false, ◌||◌, nat_eq, arith, inl, inr, ◌⊎◌, get_or, slice_get, option_map}
 use Rattle.std.proofs.lemmas.Option.{slice_get_within}
 use Rattle.std.proofs.lemmas.List.{length-map}
 use Rattle.std.proofs.lemmas.Bool.Decides.{nat_tests}
@@ -11,7 +11,6 @@ use Rattle.aplc_names.specs.PlainPrograms.{Action, Routine, plain, routine_of, l
 use Rattle.aplc_names.specs.Runs.{line_at}
 use Rattle.aplc_infer.specs.declared.fact.Inferred.{Inferred}
 use Rattle.aplc_infer.specs.declared.fact.Inferred.TheVariants.{Unset, Of}
-use Rattle.aplc_infer.specs.declared.cell.Cell.{Cell}
 use Rattle.aplc_infer.specs.declared.cell.Cell.TheVariants as cell
 use Rattle.aplc_infer.specs.declared.cell.Demand.{Demand}
 use Rattle.aplc_infer.specs.declared.cell.Flow.{Flow}
@@ -20,11 +19,11 @@ use Rattle.aplc_infer.specs.declared.tables.Spot.{Spot}
 use Rattle.aplc_infer.specs.declared.tables.Spot.TheVariants.{Here, Hub}
 use Rattle.aplc_infer.specs.declared.tables.Tables.{Tables}
 use Rattle.aplc_infer.specs.Facts.{below, is_unset}
-use Rattle.aplc_infer.specs.Seeing.{Family, Context, declarations, context_of, local_names, number_in, at, Progress, fresh, see_statement, binding_in, flow_of, leads}
+use Rattle.aplc_infer.specs.Seeing.{Family, declarations, context_of, local_names, number_in, at, Progress, fresh, see_statement, binding_in, flow_of, leads}
 use Rattle.aplc_infer.specs.Lookups.{routine_at, binding_at, context_at}
-use Rattle.aplc_infer.specs.Families.{AreMet, IsAnswered, ReachesLine, Reaches, at_start, with_parameter, at_entry, MeetsLine, IsLine, MeetsRules, IsBelow, IsLeastOf}
-use Rattle.aplc_infer.specs.Tables.{look, family_of, room_of, TablesRise, Forgets}
-use Rattle.aplc_infer.specs.Steps.{Meets, seen_in, IsFunction, LeavesWith, LandsIn, Lands, Goes, Gone, IsUnder, Steps, Settles, Landed, HasGone, AllGone, Moves, LineDone, LinesDone, EntryDone, HubDone, HubsDone, FunctionDone, FunctionsDone, Keeps, Rounds}
+use Rattle.aplc_infer.specs.Families.{AreMet, IsAnswered, ReachesLine, Reaches, at_start, with_parameter, at_entry, IsBelow, IsLeastOf}
+use Rattle.aplc_infer.specs.Tables.{look, family_of, room_of, Forgets}
+use Rattle.aplc_infer.specs.Steps.{Meets, seen_in, IsFunction, LeavesWith, LandsIn, Lands, Goes, Gone, IsUnder, Steps, Settles, Landed, AllGone, Moves, LineDone, LinesDone, EntryDone, HubDone, HubsDone, FunctionDone, FunctionsDone, Keeps, Rounds}
 use Rattle.aplc_infer.proofs.Order.{below_trans}
 use Rattle.aplc_infer.proofs.Monotone.{NamesBelow, names_at, names_set, names_first, Follows, statement_rises}
 use Rattle.aplc_infer.proofs.AllRules.{rules_rise}

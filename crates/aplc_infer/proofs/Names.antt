@@ -1,20 +1,17 @@
 -- What the local names of functions are, and what names are in functions.
-use Rattle.std.proofs.Common.{◌≡◌, ◌∙◌, sym, ap, refl, ℕ, zero, suc, ◌+◌, ◌≤◌, ◌<◌, List, [], ◌∷◌, ◌++◌, length, map, Option, Some, None, Bool, true, false, if◌then◌else◌, arith, slice_get}
-use Rattle.std.specs.Prelude.{unwrap_or, option_map, flat_map}
-use Rattle.std.specs.Option.{option_map_or, option_to_list}
-use Rattle.aplc_syntax.specs.declared.tree.Named.{Named}
+use Rattle.std.proofs.Common.{◌≡◌, sym, refl, ℕ, zero, suc, List, [], ◌∷◌, ◌++◌, map, Bool, true, false, if◌then◌else◌, slice_get}
+use Rattle.std.specs.Prelude.{unwrap_or}
+use Rattle.std.specs.Option.{option_map_or}
 use Rattle.aplc_syntax.specs.declared.tree.Function.{Function}
 use Rattle.aplc_syntax.specs.declared.tree.Program.{Program}
 use Rattle.aplc_syntax.specs.declared.tree.Statement.{Statement}
 use Rattle.aplc_syntax.specs.declared.tree.Statement.TheVariants as st
 use Rattle.aplc_syntax.specs.PlainTrees.{Tree, Numbers, Text, Name, TextInput, NumsInput, Mono, Dyad, Index, Assign, AssignAt, Show, Call, tree_of}
-use Rattle.aplc_names.specs.declared.outline.Mention.{Mention}
-use Rattle.aplc_names.specs.declared.scope.Scope.{Scope}
 use Rattle.aplc_names.specs.declared.scope.Scope.TheVariants as scope
 use Rattle.aplc_names.specs.Outlines.{tree_mentions, statement_mentions}
-use Rattle.aplc_names.specs.PlainPrograms.{plain, routine_of, no_routine, quiet_of, action_of, name_number}
+use Rattle.aplc_names.specs.PlainPrograms.{routine_of, no_routine, quiet_of, action_of}
 use Rattle.aplc_names.specs.Scopes.{scope_in, scope_of}
-use Rattle.aplc_infer.specs.Seeing.{with_new, with_each, is_local, local_ones, mentioned, action_mentions, local_names, names_in_lines}
+use Rattle.aplc_infer.specs.Seeing.{with_new, with_each, action_mentions}
 use Rattle.aplc_infer.specs.Lookups.{routine_at}
 
 -- ---- Mentions

@@ -1,11 +1,11 @@
 -- The numbers of local names.
-use Rattle.std.proofs.Common.{◌≡◌, ◌∙◌, sym, ap, refl, ℕ, zero, suc, ◌+◌, ◌≤◌, ◌<◌, List, [], ◌∷◌, length, map, Option, Some, None, Bool, true, false, cond, nat_eq, nat_lt, if◌then◌else◌, arith, position, slice_get}
+use Rattle.std.proofs.Common.{◌≡◌, ◌∙◌, sym, ap, refl, ℕ, zero, suc, ◌+◌, ◌≤◌, List, [], ◌∷◌, length, map, Option, Some, None, Bool, true, false, cond, nat_eq, nat_lt, if◌then◌else◌, arith, position, slice_get}
 use Rattle.std.specs.Prelude.{unwrap_or}
 use Rattle.std.specs.List.{position_or_len}
 use Rattle.std.proofs.lemmas.Bool.Decides.{nat_tests}
 use Rattle.std.proofs.lemmas.List.Recursion.{is_position_or_len}
 use Rattle.aplc_syntax.specs.declared.tree.Program.{Program}
-use Rattle.aplc_names.specs.PlainPrograms.{Routine, plain, no_routine}
+use Rattle.aplc_names.specs.PlainPrograms.{plain, no_routine}
 use Rattle.aplc_infer.specs.Seeing.{local_names, number_in}
 use Rattle.aplc_infer.specs.Lookups.{routine_at}
 

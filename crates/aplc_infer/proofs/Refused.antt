@@ -1,8 +1,8 @@
 -- The first refusal of more and more lines; and what a first refusal says of all families.
-use Rattle.std.proofs.Common.{◌≡◌, ◌∙◌, sym, ap, refl, subst, ℕ, zero, suc, ◌+◌, ◌<◌, ◌≤◌, List, [], ◌∷◌, length, map, Option, Some, None, arith, inl, inr, ◌⊎◌, get_or, slice_get}
-use Rattle.std.proofs.lemmas.Option.{slice_get_within, slice_get-get_or}
+use Rattle.std.proofs.Common.{◌≡◌, ◌∙◌, sym, ap, refl, subst, ℕ, zero, suc, ◌+◌, ◌<◌, ◌≤◌, List, [], ◌∷◌, length, map, Option, Some, None, arith, inr, get_or, slice_get}
+use Rattle.std.proofs.lemmas.Option.{slice_get-get_or}
 use Rattle.aplc_lex.specs.declared.token.Refusal.{Refusal}
-use Rattle.aplc_lex.specs.Firsts.{IsBefore, IsFirst, IsFirstOf, earlier}
+use Rattle.aplc_lex.specs.Firsts.{IsBefore, IsFirstOf, earlier}
 use Rattle.aplc_lex.proofs.Order.{same_first}
 use Rattle.aplc_syntax.specs.declared.tree.Line.{Line}
 use Rattle.aplc_syntax.specs.declared.tree.Function.{Function}
@@ -15,7 +15,7 @@ use Rattle.aplc_infer.specs.declared.fact.Inferred.{Inferred}
 use Rattle.aplc_infer.specs.declared.tables.Tables.{Tables}
 use Rattle.aplc_infer.specs.Seeing.{Family, declarations, at, Progress, fresh, see_statement}
 use Rattle.aplc_infer.specs.Lookups.{routine_at, context_at}
-use Rattle.aplc_infer.specs.Families.{at_start, IsRefused, IsLeastOf, IsWellTyped, StandsFirst, Fits}
+use Rattle.aplc_infer.specs.Families.{at_start, IsLeastOf, IsWellTyped, StandsFirst, Fits}
 use Rattle.aplc_infer.specs.Tables.{family_of}
 use Rattle.aplc_infer.specs.Steps.{seen_in, IsFunction, StandsUnder}
 use Rattle.aplc_infer.specs.Refusals.{IsThis, InLine, InFunction}

@@ -1,5 +1,5 @@
 -- Computed examples of the typing rules. A comment has the APL of each row; facts are written as kind and lengths.
-use Rattle.std.proofs.Common.{◌≡◌, refl, ℕ, List, [], ◌∷◌, map, Option, Some, None, Ok, Err}
+use Rattle.std.proofs.Common.{◌≡◌, refl, ℕ, List, [], ◌∷◌, map, Some, None, Ok, Err}
 use Rattle.std.specs.Prelude.{ℤ, pos, negsuc}
 use Rattle.aplc_scalar.specs.declared.function.ScalarFn.TheVariants as f
 use Rattle.aplc_syntax.specs.declared.tree.Axis.TheVariants as ax

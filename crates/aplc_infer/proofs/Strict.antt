@@ -1,5 +1,5 @@
 -- The wrapper of the rules: what it owes for what is unset or mixed, once for all rules.
-use Rattle.std.proofs.Common.{◌≡◌, ◌∙◌, sym, ap, refl, ℕ, List, [], ◌∷◌, Option, Some, None, Result, Ok, Err, Bool, true, false, ◌&&◌, ◌||◌, not, arith}
+use Rattle.std.proofs.Common.{◌≡◌, ◌∙◌, sym, ap, refl, ℕ, List, [], ◌∷◌, Option, Some, None, Ok, Err, Bool, true, false, ◌||◌, not}
 use Rattle.std.specs.Prelude.{is_none}
 use Rattle.aplc_infer.specs.declared.fact.FactKind.{FactKind}
 use Rattle.aplc_infer.specs.declared.fact.FactKind.TheVariants.{Bit, Num, Char, Mixed}
@@ -8,7 +8,7 @@ use Rattle.aplc_infer.specs.declared.fact.Inferred.TheVariants.{Unset, Of}
 use Rattle.aplc_infer.specs.Facts.{kind_below, lengths_below, shape_below, below, mixed, is_mixed_kind, is_mixed, is_unset, mixed_if, settled}
 use Rattle.aplc_infer.specs.Rules.{Ruled, Sort, Missing, Muddled, Clear, sorted, sort, strict1, strict2, strict_by, strict_list, any_fact, fact_of}
 use Rattle.aplc_infer.specs.Orders.{below_result, plain_below, sort_below, is_muddled, entries_below, IsRising, IsRising1, clear_result, IsClearing1, IsClearing}
-use Rattle.aplc_infer.proofs.Trials.{both_true, left_true, right_true, not_true, unequal}
+use Rattle.aplc_infer.proofs.Trials.{both_true, left_true, right_true, unequal}
 
 -- ---- Mixed is above all
 

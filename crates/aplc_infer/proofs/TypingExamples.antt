@@ -1,16 +1,16 @@
 -- Programs with all their facts: they meet the rules, each node has just its fact, and the first refusal is the one that is
 -- said. Below each program stand its functions, the facts and the first refusal, found by other means.
-use Rattle.std.proofs.Common.{◌≡◌, refl, ℕ, zero, suc, ◌+◌, List, [], ◌∷◌, ◌++◌, length, map, Option, Some, None, Bool, true, false, ◌&&◌, ◌||◌, not, if◌then◌else◌, nat_eq}
-use Rattle.std.specs.Prelude.{ℤ, pos, negsuc, slice_get}
+use Rattle.std.proofs.Common.{◌≡◌, refl, ℕ, zero, suc, ◌+◌, List, [], ◌∷◌, length, Option, Some, None, Bool, true, false, ◌&&◌, ◌||◌, not, if◌then◌else◌, nat_eq}
+use Rattle.std.specs.Prelude.{ℤ, pos}
 use Rattle.aplc_lex.specs.declared.token.Refusal.{Refusal}
 use Rattle.aplc_lex.specs.Firsts.{refusal, earlier}
 use Rattle.aplc_scalar.specs.declared.function.ScalarFn.TheVariants as f
 use Rattle.aplc_syntax.specs.declared.tree.Axis.TheVariants as ax
 use Rattle.aplc_syntax.specs.declared.tree.Primitive.TheVariants as pr
-use Rattle.aplc_syntax.specs.PlainTrees.{Numbers, Text, Name, TextInput, NumsInput, Mono, Dyad, Index, Assign, AssignAt, Show, Call, no_more, left_out, and_tree, absent, given}
+use Rattle.aplc_syntax.specs.PlainTrees.{Numbers, Text, Name, TextInput, NumsInput, Mono, Dyad, Assign, AssignAt, Call, no_more, left_out, and_tree, absent, given}
 use Rattle.aplc_names.specs.declared.scope.Scope.{Scope}
 use Rattle.aplc_names.specs.declared.scope.Scope.TheVariants as scope
-use Rattle.aplc_names.specs.PlainPrograms.{Action, nothing, quiet, perform, display, branch, Routine, PlainProgram}
+use Rattle.aplc_names.specs.PlainPrograms.{Action, quiet, perform, display, branch, Routine, PlainProgram}
 use Rattle.aplc_names.specs.Runs.{line_at}
 use Rattle.aplc_infer.specs.declared.fact.FactKind.TheVariants.{Bit, Num, Char, Mixed}
 use Rattle.aplc_infer.specs.declared.fact.Inferred.{Inferred}
@@ -19,7 +19,7 @@ use Rattle.aplc_infer.specs.declared.cell.Cell.{Cell}
 use Rattle.aplc_infer.specs.declared.cell.Cell.TheVariants as cell
 use Rattle.aplc_infer.specs.declared.cell.Demand.{Demand}
 use Rattle.aplc_infer.specs.Facts.{below}
-use Rattle.aplc_infer.specs.Seeing.{Family, Declarations, binding_in, flow_of, leads, local_names, number_in, at, Progress}
+use Rattle.aplc_infer.specs.Seeing.{Family, Declarations, binding_in, flow_of, leads, local_names, number_in, at}
 use Rattle.aplc_infer.specs.Families.{at_entry, seen_line}
 
 -- ---- Programs and families written as lists

@@ -1,5 +1,5 @@
 -- What all rules owe together.
-use Rattle.std.specs.Prelude.{◌≡◌, true, false, List, Option, ℤ}
+use Rattle.std.specs.Prelude.{◌≡◌, true, List, Option, ℤ}
 use Rattle.aplc_syntax.specs.declared.tree.Primitive.{Primitive}
 use Rattle.aplc_infer.specs.declared.fact.Inferred.{Inferred}
 use Rattle.aplc_infer.specs.Facts.{below}

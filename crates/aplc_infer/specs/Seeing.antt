@@ -1,5 +1,5 @@
 -- What the evaluation of a line asks of a family of facts and what is refused under it, and where the line leads.
-use Rattle.std.specs.Prelude.{ℕ, zero, suc, ◌+◌, Bool, true, false, ◌||◌, List, [], ◌∷◌, ◌++◌, Option, Some, None, ℤ, map, flat_map, slice_get, slice_set, unwrap_or, nat_eq, if◌then◌else◌, Result, Ok, Err}
+use Rattle.std.specs.Prelude.{ℕ, suc, ◌+◌, Bool, true, false, ◌||◌, List, [], ◌∷◌, ◌++◌, Option, Some, None, ℤ, map, flat_map, slice_get, slice_set, unwrap_or, nat_eq, if◌then◌else◌, Ok, Err}
 use Rattle.std.specs.List.{list_any}
 use Rattle.std.specs.Option.{option_to_list}
 use Rattle.aplc_lex.specs.declared.token.Refusal.{Refusal}
@@ -18,7 +18,7 @@ use Rattle.aplc_names.specs.Outlines.{tree_mentions}
 use Rattle.aplc_names.specs.PlainPrograms.{Action, nothing, quiet, perform, display, branch, Routine, PlainProgram}
 use Rattle.aplc_names.specs.Eager.{line_named}
 use Rattle.aplc_infer.specs.declared.fact.FactKind.{FactKind}
-use Rattle.aplc_infer.specs.declared.fact.FactKind.TheVariants.{Num, Char, Mixed}
+use Rattle.aplc_infer.specs.declared.fact.FactKind.TheVariants.{Num, Char}
 use Rattle.aplc_infer.specs.declared.fact.Inferred.{Inferred}
 use Rattle.aplc_infer.specs.declared.fact.Inferred.TheVariants.{Unset, Of}
 use Rattle.aplc_infer.specs.declared.rule_break.RuleBreak.{RuleBreak}

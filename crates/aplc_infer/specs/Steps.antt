@@ -1,5 +1,5 @@
 -- What a stretch of the work on the tables of a program leaves.
-use Rattle.std.specs.Prelude.{◌≡◌, ◌<◌, ◌≤◌, ℕ, ◌+◌, Bool, true, false, List, [], ◌∷◌, Option, Some, None, length, is_some, slice_get}
+use Rattle.std.specs.Prelude.{◌≡◌, ◌<◌, ◌≤◌, ℕ, ◌+◌, Bool, true, false, List, [], ◌∷◌, Option, Some, None, length, slice_get}
 use Rattle.aplc_lex.specs.declared.token.Refusal.{Refusal}
 use Rattle.aplc_syntax.specs.declared.tree.Line.{Line}
 use Rattle.aplc_syntax.specs.declared.tree.Function.{Function}
@@ -11,11 +11,11 @@ use Rattle.aplc_infer.specs.declared.cell.Cell.TheVariants as cell
 use Rattle.aplc_infer.specs.declared.cell.Demand.{Demand}
 use Rattle.aplc_infer.specs.declared.cell.Flow.{Flow}
 use Rattle.aplc_infer.specs.declared.cell.Flow.TheVariants as flow
-use Rattle.aplc_infer.specs.declared.tables.Spot.TheVariants.{Here, Hub}
+use Rattle.aplc_infer.specs.declared.tables.Spot.TheVariants.{Hub}
 use Rattle.aplc_infer.specs.declared.tables.Tables.{Tables}
 use Rattle.aplc_infer.specs.Facts.{below}
 use Rattle.aplc_infer.specs.Seeing.{Family, declarations, local_names, number_in, at, Progress, binding_in, flow_of}
-use Rattle.aplc_infer.specs.Families.{AreMet, IsBelow, Reaches, at_entry, seen_line, MeetsRules, IsRefused}
+use Rattle.aplc_infer.specs.Families.{AreMet, IsBelow, at_entry, seen_line, MeetsRules, IsRefused}
 use Rattle.aplc_infer.specs.Tables.{look, family_of, room_of}
 
 -- ---- Of a program

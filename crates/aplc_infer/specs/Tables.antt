@@ -1,14 +1,13 @@
 -- Facts in tables: what stands where, how often the facts can rise, and the family that they are.
-use Rattle.std.specs.Prelude.{◌≡◌, ◌<◌, ℕ, zero, suc, ◌+◌, Bool, true, false, List, [], ◌∷◌, Option, Some, None, ◌⊎◌, slice_get}
+use Rattle.std.specs.Prelude.{◌≡◌, ℕ, zero, suc, ◌+◌, Bool}
 use Rattle.aplc_infer.specs.declared.fact.Inferred.{Inferred}
 use Rattle.aplc_infer.specs.declared.fact.Inferred.TheVariants.{Unset}
 use Rattle.aplc_infer.specs.declared.cell.Cell.TheVariants as cell
 use Rattle.aplc_infer.specs.declared.tables.Spot.{Spot}
 use Rattle.aplc_infer.specs.declared.tables.Spot.TheVariants.{Here, Hub}
 use Rattle.aplc_infer.specs.declared.tables.Tables.{Tables}
-use Rattle.aplc_infer.specs.Facts.{below, join, room}
 use Rattle.aplc_infer.specs.Seeing.{Family, at}
-use Rattle.aplc_infer.specs.Rising.{at2, at3, room_row, room_rows, room_blocks, Rises}
+use Rattle.aplc_infer.specs.Rising.{at3, room_row, room_blocks, Rises}
 
 -- what stands at a spot of the tables; a function's row 0 is its hub, the others are its lines
 abbrev pub look : Tables → Spot → Inferred

@@ -1,5 +1,5 @@
 -- The first declaration of the name is the one that its list of names finds.
-use Rattle.std.proofs.Common.{◌≡◌, ◌∙◌, ap, sym, map}
+use Rattle.std.proofs.Common.{◌∙◌, ap, sym, map}
 use Rattle.aplc_syntax.specs.declared.tree.Program.{Program}
 use Rattle.aplc_names.specs.Clashes.{var_name}
 use Rattle.aplc_infer.proofs.Declared.{declared_none, declared_some}

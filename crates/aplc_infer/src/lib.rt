@@ -6,6 +6,7 @@ mod agenda;
 mod block;
 mod branches;
 mod cell;
+mod extent;
 mod fact;
 mod facts;
 mod flowing;

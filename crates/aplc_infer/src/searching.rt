@@ -19,6 +19,7 @@ use crate::agenda::{Agenda, Task};
 use crate::block::Block;
 use crate::branches::flow_of;
 use crate::cell::{Binding, Cell, Flow};
+use crate::extent::node_places;
 use crate::flowing::{either, flow_one, land_from, settle};
 use crate::inference::{pass, settle_entry, settle_hub};
 use crate::lookup::Lookup;
@@ -29,9 +30,6 @@ use crate::walk::Walk;
 use aplc_names::{Mention, put_statement};
 use aplc_syntax::{Function, Line, Statement};
 use std::alloc::{AllocError, Global};
-
-/// So many bytes a source has at most, and so many nodes.
-const MOST_NODES: usize = 262_144;
 
 // ---- A line that is evaluated
 
@@ -572,7 +570,7 @@ fn blank(alloc: Global, lookup: &Lookup) -> Result<Tables, AllocError>
 {
     let program = lookup.program();
     let extent = Extent {
-        nodes: MOST_NODES,
+        nodes: node_places(program),
         globals: program.names.as_slice().len(),
         functions: program.functions.as_slice().len(),
     };

@@ -13,10 +13,12 @@ use Rattle.aplc_syntax.specs.Programs.{statement_ids, program_ids}
 use Rattle.aplc_names.specs.PlainPrograms.{quiet_of, action_of, line_action, routine_of, plain}
 use Rattle.aplc_names.specs.States.{final}
 use Rattle.aplc_names.specs.Runs.{evaluated}
-use Rattle.aplc_infer.specs.Seeing.{declarations, context_of, fresh}
-use Rattle.aplc_infer.specs.Families.{at_start}
+use Rattle.aplc_infer.specs.Seeing.{Family, declarations, context_of, fresh}
+use Rattle.aplc_infer.specs.Families.{at_start, Fits, IsWellTyped, IsLeastOf}
 use Rattle.aplc_soundness.specs.FactLaws.{HasOwnNodes, NodesExact, PassesFacts, TakesKinds}
 use Rattle.aplc_infer.proofs.AllRules.{rules_rise}
+use Rattle.aplc_infer.proofs.Climbing.{least_family}
+use Rattle.aplc_infer.proofs.Refused.{least_fine}
 use Rattle.aplc_infer.proofs.Trials.{equal_of, equal_test}
 use Rattle.aplc_soundness.proofs.Held.{no}
 use Rattle.aplc_soundness.proofs.Counted.{one_if, tally, action_ids, routine_ids, plain_ids}
@@ -83,12 +85,20 @@ few p own i = subst (λ xs. tally i xs ≤ 1) (sym (functions_same p p.functions
 pub nodes_exact : (p : Program) → NodesExact p
 nodes_exact p own g least = lines_exact (declarations p.vars) (plain p) g least (few p own)
 
+-- under the least facts of a well-typed program no refusal stands
+least_fits : (p : Program) → IsWellTyped p → (g : Family) → IsLeastOf p g → Fits (declarations p.vars) (plain p) g
+least_fits p typed g least = record { rules = least.rules; fine = λ r h. least_fine p g least typed r h }
+
 pub takes_kinds : (p : Program) → TakesKinds p
-takes_kinds p own g least fits m input n j l f x there =
+takes_kinds p own typed m input n j l f x there =
     let d = declarations p.vars in
+    let g = (least_family d (plain p)).0 in
+    let least = (least_family d (plain p)).1 in
+    let fits = least_fits p typed g least in
     statement_given (context_of d (plain p) f) g (rules_rise p.origin) (final (evaluated (plain p) m input n)).world.given (after_run p g fits m input n).given x (fresh (at_start g j f l)) (nodes_exact p own g least j l f x there) (line_fine d (plain p) g fits j l f x there)
 
 pub passes_facts : (p : Program) → PassesFacts p
-passes_facts p own g least fits m input n j l f x there =
+passes_facts p own typed g least m input n j l f x there =
     let d = declarations p.vars in
-    statement_passes (context_of d (plain p) f) g (rules_rise p.origin) (final (evaluated (plain p) m input n)).world.given (after_run p g fits m input n).given x (fresh (at_start g j f l)) (nodes_exact p own g least j l f x there) (fits.rules.lines j l f x there).demands (line_fine d (plain p) g fits j l f x there)
+    let fits = least_fits p typed g least in
+    statement_passes (context_of d (plain p) f) g (rules_rise p.origin) (final (evaluated (plain p) m input n)).world.given (after_run p g fits m input n).given x (fresh (at_start g j f l)) (nodes_exact p own g least j l f x there) (least.rules.lines j l f x there).demands (line_fine d (plain p) g fits j l f x there)

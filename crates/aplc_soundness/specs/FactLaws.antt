@@ -43,23 +43,24 @@ IsFaultOf e (run.Going o ms) = ⊥
 abbrev pub HasNoRankFault : Program → Type 0
 HasNoRankFault p = IsWellTyped p → (m : Marking) (input : List ℕ) (n : ℕ) → IsFaultOf fault.Rank (eager (plain p) m input n) → ⊥
 
--- ---- Under the least facts, of a program in which no two nodes have one number
+-- ---- Of a program in which no two nodes have one number
 
 abbrev pub HasOwnNodes : Program → Type 0
 HasOwnNodes p = IsDistinct nat_eq (program_ids p)
 
--- each node has just the fact that the rules give where it is evaluated: of the facts of its arguments, or of the name
--- that it reads
+-- under the least facts each node has just the fact that the rules give where it is evaluated: of the facts of its
+-- arguments, or of the name that it reads
 abbrev pub NodesExact : Program → Type 0
 NodesExact p = HasOwnNodes p → (g : Family) → IsLeastOf p g → LinesExact (declarations p.vars) (plain p) g
 
--- no function is given a wrong kind where no refusal stands: it takes the kinds of whatever the nodes of its arguments
--- were given
+-- no function of a well-typed program is given a wrong kind: it takes the kinds of whatever the nodes of its arguments were
+-- given
 abbrev pub TakesKinds : Program → Type 0
 TakesKinds p =
-    HasOwnNodes p → (g : Family) → IsLeastOf p g → Fits (declarations p.vars) (plain p) g → (m : Marking) (input : List ℕ) (n : ℕ) (j l : ℕ) (f : Routine) (x : Action) → IsLine (plain p) j l f x → ActionGiven (final (evaluated (plain p) m input n)).world.given x
+    HasOwnNodes p → IsWellTyped p → (m : Marking) (input : List ℕ) (n : ℕ) (j l : ℕ) (f : Routine) (x : Action) → IsLine (plain p) j l f x → ActionGiven (final (evaluated (plain p) m input n)).world.given x
 
--- what names that are read, arguments of calls and their results were given is what their own facts hold of
+-- under the least facts of a well-typed program what names that are read, arguments of calls and their results were given
+-- is what their own facts hold of
 abbrev pub PassesFacts : Program → Type 0
 PassesFacts p =
-    HasOwnNodes p → (g : Family) → IsLeastOf p g → Fits (declarations p.vars) (plain p) g → (m : Marking) (input : List ℕ) (n : ℕ) (j l : ℕ) (f : Routine) (x : Action) → IsLine (plain p) j l f x → ActionPasses (context_of (declarations p.vars) (plain p) f) g (final (evaluated (plain p) m input n)).world.given x
+    HasOwnNodes p → IsWellTyped p → (g : Family) → IsLeastOf p g → (m : Marking) (input : List ℕ) (n : ℕ) (j l : ℕ) (f : Routine) (x : Action) → IsLine (plain p) j l f x → ActionPasses (context_of (declarations p.vars) (plain p) f) g (final (evaluated (plain p) m input n)).world.given x

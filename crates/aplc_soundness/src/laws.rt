@@ -25,12 +25,13 @@ pub fn nodes_exact()
     ensures { (p : Program) → NodesExact p }
 {}
 
-/// No function is given a wrong kind where no refusal stands.
+/// No function of a well-typed program is given a wrong kind.
 pub fn takes_kinds()
     ensures { (p : Program) → TakesKinds p }
 {}
 
-/// What names that are read, arguments of calls and their results were given is what their own facts hold of.
+/// Under the least facts of a well-typed program what names that are read, arguments of calls and their results were given is
+/// what their own facts hold of.
 pub fn passes_facts()
     ensures { (p : Program) → PassesFacts p }
 {}

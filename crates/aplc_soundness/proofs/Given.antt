@@ -68,7 +68,7 @@ module _ (c : Context) (g : Family) (rise : RulesRise c.origin) (xs : List Givin
   literal_here (Show i p a) w v h = tt
   literal_here (Call i p n a b) w v h = tt
 
-  entries_here : (ts : Trees) (w : Progress) (vs : List (Option Array)) → EntriesExact c g ts w → AreEntries xs ts vs → HoldsAll (see_all c g ts w).facts vs
+  pub entries_here : (ts : Trees) (w : Progress) (vs : List (Option Array)) → EntriesExact c g ts w → AreEntries xs ts vs → HoldsAll (see_all c g ts w).facts vs
   entries_here no_more w [] e h = tt
   entries_here no_more w (v ∷ vs) e h = absurd h
   entries_here (left_out ts) w [] e h = absurd h

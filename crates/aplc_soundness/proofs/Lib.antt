@@ -1,5 +1,6 @@
 pub mod AllHeld
 pub mod AtNodes
+pub mod Changed
 pub mod Comes
 pub mod Counted
 pub mod Exactly

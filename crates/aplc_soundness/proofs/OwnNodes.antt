@@ -15,7 +15,7 @@ use Rattle.aplc_names.specs.States.{final}
 use Rattle.aplc_names.specs.Runs.{evaluated}
 use Rattle.aplc_infer.specs.Seeing.{Family, declarations, context_of, fresh}
 use Rattle.aplc_infer.specs.Families.{at_start, Fits, IsWellTyped, IsLeastOf}
-use Rattle.aplc_soundness.specs.FactLaws.{HasOwnNodes, NodesExact, PassesFacts, TakesKinds}
+use Rattle.aplc_soundness.specs.FactLaws.{ChangesKeepKinds, HasOwnNodes, NodesExact, PassesFacts, TakesKinds}
 use Rattle.aplc_infer.proofs.AllRules.{rules_rise}
 use Rattle.aplc_infer.proofs.Climbing.{least_family}
 use Rattle.aplc_infer.proofs.Refused.{least_fine}
@@ -25,6 +25,7 @@ use Rattle.aplc_soundness.proofs.Counted.{one_if, tally, action_ids, routine_ids
 use Rattle.aplc_soundness.proofs.Exactly.{lines_exact}
 use Rattle.aplc_soundness.proofs.Given.{statement_given}
 use Rattle.aplc_soundness.proofs.Passed.{statement_passes}
+use Rattle.aplc_soundness.proofs.Changed.{statement_changes}
 use Rattle.aplc_soundness.proofs.HeldRuns.{line_fine}
 use Rattle.aplc_soundness.proofs.Lawful.{after_run}
 
@@ -102,3 +103,9 @@ passes_facts p own typed g least m input n j l f x there =
     let d = declarations p.vars in
     let fits = least_fits p typed g least in
     statement_passes (context_of d (plain p) f) g (rules_rise p.origin) (final (evaluated (plain p) m input n)).world.given (after_run p g fits m input n).given x (fresh (at_start g j f l)) (nodes_exact p own g least j l f x there) (least.rules.lines j l f x there).demands (line_fine d (plain p) g fits j l f x there)
+
+pub changes_keep_kinds : (p : Program) → ChangesKeepKinds p
+changes_keep_kinds p own typed g least m input n j l f x there =
+    let d = declarations p.vars in
+    let fits = least_fits p typed g least in
+    statement_changes (context_of d (plain p) f) g (rules_rise p.origin) (final (evaluated (plain p) m input n)).world.given (after_run p g fits m input n).given x (fresh (at_start g j f l)) (nodes_exact p own g least j l f x there) (line_fine d (plain p) g fits j l f x there)

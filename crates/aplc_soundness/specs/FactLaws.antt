@@ -10,12 +10,13 @@ use Rattle.aplc_names.specs.States.{Giving, Marking, final}
 use Rattle.aplc_names.specs.Runs.{Run, eager, evaluated}
 use Rattle.aplc_names.specs.Runs as run
 use Rattle.aplc_infer.specs.declared.cell.Cell.TheVariants as cell
-use Rattle.aplc_infer.specs.Seeing.{Family, declarations, context_of}
-use Rattle.aplc_infer.specs.Families.{IsLine, Fits, IsWellTyped, IsLeastOf}
+use Rattle.aplc_infer.specs.Seeing.{Family, declarations, context_of, fresh}
+use Rattle.aplc_infer.specs.Families.{at_start, IsLine, Fits, IsWellTyped, IsLeastOf}
 use Rattle.aplc_soundness.specs.Holding.{Holds, HoldsOf}
 use Rattle.aplc_soundness.specs.Exact.{LinesExact}
 use Rattle.aplc_soundness.specs.Taking.{ActionGiven}
 use Rattle.aplc_soundness.specs.Passing.{ActionPasses}
+use Rattle.aplc_soundness.specs.Changing.{ActionChanges}
 
 -- each value that was given to a node is one of which the node's fact holds
 abbrev pub AreHeld : Family → List Giving → Type 0
@@ -64,3 +65,8 @@ TakesKinds p =
 abbrev pub PassesFacts : Program → Type 0
 PassesFacts p =
     HasOwnNodes p → IsWellTyped p → (g : Family) → IsLeastOf p g → (m : Marking) (input : List ℕ) (n : ℕ) (j l : ℕ) (f : Routine) (x : Action) → IsLine (plain p) j l f x → ActionPasses (context_of (declarations p.vars) (plain p) f) g (final (evaluated (plain p) m input n)).world.given x
+
+-- and an indexed assignment is given a value of the kind of what its name's fact holds of there, so of its own value's
+abbrev pub ChangesKeepKinds : Program → Type 0
+ChangesKeepKinds p =
+    HasOwnNodes p → IsWellTyped p → (g : Family) → IsLeastOf p g → (m : Marking) (input : List ℕ) (n : ℕ) (j l : ℕ) (f : Routine) (x : Action) → IsLine (plain p) j l f x → ActionChanges (context_of (declarations p.vars) (plain p) f) g (final (evaluated (plain p) m input n)).world.given x (fresh (at_start g j f l))

@@ -1,3 +1,4 @@
+pub mod Changing
 pub mod Exact
 pub mod FactLaws
 pub mod Holding

@@ -2,7 +2,7 @@
 //! It must not hold code that runs.
 
 ghost use Rattle.aplc_syntax.specs.declared.tree.Program.{Program};
-ghost use Rattle.aplc_soundness.specs.FactLaws.{FactsHold, GlobalsHold, HasNoRankFault, NodesExact, PassesFacts, TakesKinds};
+ghost use Rattle.aplc_soundness.specs.FactLaws.{ChangesKeepKinds, FactsHold, GlobalsHold, HasNoRankFault, NodesExact, PassesFacts, TakesKinds};
 
 /// Each value that a run gives to a node is one of which the node's fact holds: kind and rank agree, each known length is
 /// the axis's, and an array of bits has only 0 and 1.
@@ -34,4 +34,9 @@ pub fn takes_kinds()
 /// what their own facts hold of.
 pub fn passes_facts()
     ensures { (p : Program) → PassesFacts p }
+{}
+
+/// An indexed assignment of a well-typed program is given entries of numbers, and a value of the kind of its name.
+pub fn changes_keep_kinds()
+    ensures { (p : Program) → ChangesKeepKinds p }
 {}

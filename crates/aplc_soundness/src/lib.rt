@@ -4,4 +4,7 @@
 
 mod laws;
 
-pub use laws::{facts_hold, globals_hold, no_rank_fault, nodes_exact, passes_facts, takes_kinds};
+pub use laws::{
+    changes_keep_kinds, facts_hold, globals_hold, no_rank_fault, nodes_exact, passes_facts,
+    takes_kinds,
+};

@@ -1,0 +1,4 @@
+pub mod PlainSteps
+pub mod CoreRuns
+pub mod Lowering
+pub mod CoreLaws

@@ -9,7 +9,7 @@ use Rattle.aplc_names.specs.PlainPrograms.{Routine, no_routine}
 use Rattle.aplc_names.specs.Primitives.{mono_of, dyad_of, mono_applications, dyad_applications, places_listed}
 use Rattle.aplc_names.specs.States.{Place, World, State, Marking, Giving, Outcome, Gives, and_then, final, on_world, on_account, is_among, worked, at_line, released, ended}
 use Rattle.aplc_names.specs.States as outcome
-use Rattle.aplc_names.specs.Eager.{Caller, Context, Use, passed, stored, displayed, held_for, ready, made, none_for, literal, vector, value_of_name, there, read_line, assigned, put, change_there, function_of, branch_to, branched}
+use Rattle.aplc_names.specs.Eager.{Caller, Context, Use, passed, stored, displayed, held_for, ready, made, none_for, literal, vector, value_of_name, there, read_line, old_value, assigned, put, change_there, function_of, branch_to, branched}
 use Rattle.aplc_names.specs.Runs.{Run, run_of, call_routine, after, result_of, initial}
 use Rattle.aplc_core.specs.PlainSteps.{Term, Literal, Read, Slot, Mono, Dyad, Index, Terms, no_more, left_out, and_term, Effect, Keep, Store, StoreAt, Call, ReadText, ReadNums, Show, Branch, id_of}
 
@@ -68,15 +68,16 @@ abbrev pub read_again : Option Array → State → Outcome Array
 read_again None s = outcome.Faulted fault.Value s
 read_again (Some v) s = Gives v s
 
-abbrev pub read_name : Context → ℕ → Use → Bool → Option Array → State → Outcome Array
-read_name c i u true o s = read_again o s
-read_name c i u false o s = there c i u o s
+-- an assignment's own number reads what the assignment wrote
+abbrev pub read_name : Context → ℕ → Use → Bool → ℕ → State → Outcome Array
+read_name c i u true n s = read_again (old_value (c.scope n) n s.world) s
+read_name c i u false n s = there c i u (value_of_name (c.scope n) n s.world) s
 
 abbrev mutual
   -- the value of a tree, from right to left; a slot adds nothing
   pub term_value : Context → Told → Slots → Term → State → Outcome Array
   term_value c l slots (Literal i k zs) s = ready c i (use_in l i) (length zs) (literal k zs) s
-  term_value c l slots (Read i n) s = read_name c i (use_in l i) (is_among i l.assigned) (value_of_name (c.scope n) n s.world) s
+  term_value c l slots (Read i n) s = read_name c i (use_in l i) (is_among i l.assigned) n s
   term_value c l slots (Slot i k) s = Gives (value_kept i (slots k)) s
   term_value c l slots (Mono i f b) s =
       and_then (term_value c l slots b s) (λ y s1. made c i (use_in l i) none_for (mono_applications c.origin f y.shape) (mono_of c.origin f y) s1)

@@ -1,12 +1,1 @@
-mod LoweringExamples
-mod Carried
-mod Cuts
-mod Comes
-mod KeptLists
-mod Effects
-mod Forms
-mod Tells
-mod Marks
-mod Numbered
-mod Statements
-mod KeepsRuns
+

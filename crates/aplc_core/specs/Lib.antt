@@ -2,3 +2,4 @@ pub mod PlainSteps
 pub mod CoreRuns
 pub mod Lowering
 pub mod CoreLaws
+pub mod Structure

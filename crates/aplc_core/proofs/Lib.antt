@@ -1,1 +1,17 @@
-
+mod Carried
+mod Comes
+mod CoreAccountExamples
+mod CoreRunExamples
+mod Cuts
+mod Effects
+mod Forms
+mod KeepsRuns
+mod KeptLists
+mod LoweringExamples
+mod Marks
+mod Numbered
+mod Ordered
+mod Saying
+mod Statements
+mod Structured
+mod Tells

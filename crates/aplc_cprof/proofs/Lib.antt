@@ -24,4 +24,8 @@ pub mod Matching
 pub mod Kept
 pub mod Survives
 pub mod Writes
+pub mod Frames
+pub mod Emitted
+pub mod Counting
+pub mod Costs
 mod RunExamples

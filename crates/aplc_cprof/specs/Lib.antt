@@ -5,3 +5,5 @@ pub mod WellFormed
 pub mod Examples
 pub mod Machine
 pub mod Behaviour
+pub mod Frames
+pub mod Emitted

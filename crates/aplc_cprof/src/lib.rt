@@ -3,6 +3,7 @@
 #![tactic(auto)]
 
 mod building;
+mod emitting;
 mod expressions;
 mod laws;
 mod list;
@@ -12,6 +13,7 @@ mod statements;
 mod syntax;
 
 pub use building::Builder;
+pub use emitting::{binary, less, on_values, plus_one};
 pub use laws::{kept_calls, one_program};
 pub use list::List;
 pub use preamble::{preamble_bytes, tail_bytes};

@@ -1,5 +1,5 @@
 -- What steps and the tree behind them come to, whatever follows: rules that put such facts together.
-use Rattle.std.proofs.Common.{◌≡◌, ◌∙◌, refl, sym, ap, ℕ, ◌≤◌, List, [], ◌∷◌, ◌++◌, Option, Some, None, nat_eq, if◌then◌else◌}
+use Rattle.std.proofs.Common.{◌≡◌, ◌∙◌, sym, ap, ℕ, ◌≤◌, List, [], ◌∷◌, ◌++◌, Option, Some, if◌then◌else◌}
 use Rattle.aplc_arr.specs.Arrays.{Array}
 use Rattle.aplc_names.specs.States.{State, Giving, Outcome, Gives, and_then}
 use Rattle.aplc_names.specs.Eager.{Context}
@@ -85,10 +85,10 @@ module _ (c : Context) (l : Told) where
   two_come k n xs e f r p g le h q next reads slots s =
       carried_more c l xs [] slots s _
       ∙ carried_same c l xs slots s _ _ (λ a t. (
-        then_then (e a t) _ (next a)
-        ∙ then_same (e a t) _ _ (λ y u. (
-          then_then (f a u) _ (next a)
-          ∙ q (λ b x w. and_then (g y x w) (next b)) (λ b d z x w. then_same (g y x w) _ _ (λ v v2. reads b d (agree_below k n b d le z) v v2)) a u))))
+      then_then (e a t) _ (next a)
+      ∙ then_same (e a t) _ _ (λ y u. (
+      then_then (f a u) _ (next a)
+      ∙ q (λ b x w. and_then (g y x w) (next b)) (λ b d z x w. then_same (g y x w) _ _ (λ v v2. reads b d (agree_below k n b d le z) v v2)) a u))))
       ∙ h (λ a y u. and_then (p u) (λ x w. and_then (g y x w) (next a))) (λ a b z y u. then_same (p u) _ _ (λ x w. then_same (g y x w) _ _ (λ v v2. reads a b z v v2))) slots s
       ∙ sym (then_then (r s) _ (next slots) ∙ then_same (r s) _ _ (λ y u. then_then (p u) _ (next slots)))
 
@@ -97,7 +97,7 @@ module _ (c : Context) (l : Told) where
   two_kept k n xs ys e f r p g le same h q next reads slots s =
       carried_more c l xs ys slots s _
       ∙ carried_same c l xs slots s _ _ (λ a t. (
-        carried_same c l ys a t _ _ (λ b u. then_then (f b u) _ (next b))
-        ∙ q (λ b x w. and_then (g (e b) x w) (next b)) (λ b d z x w. ap (λ y. and_then (g y x w) (next b)) (same b d z) ∙ then_same (g (e d) x w) _ _ (λ v v2. reads b d (agree_below k n b d le z) v v2)) a t))
+      carried_same c l ys a t _ _ (λ b u. then_then (f b u) _ (next b))
+      ∙ q (λ b x w. and_then (g (e b) x w) (next b)) (λ b d z x w. ap (λ y. and_then (g y x w) (next b)) (same b d z) ∙ then_same (g (e d) x w) _ _ (λ v v2. reads b d (agree_below k n b d le z) v v2)) a t))
       ∙ h (λ a y u. and_then (p u) (λ x w. and_then (g y x w) (next a))) (λ a b z y u. then_same (p u) _ _ (λ x w. then_same (g y x w) _ _ (λ v v2. reads a b z v v2))) slots s
       ∙ sym (then_then (r s) _ (next slots) ∙ then_same (r s) _ _ (λ y u. then_then (p u) _ (next slots)))

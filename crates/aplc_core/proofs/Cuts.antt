@@ -1,10 +1,10 @@
 -- What a tree is cut into: no step is a branch, slots are given out in order, and the tree that is left reads those alone.
-use Rattle.std.proofs.Common.{◌≡◌, refl, ℕ, ◌+◌, ◌≤◌, ◌<◌, List, [], ◌∷◌, ◌++◌, Option, Some, None, arith}
+use Rattle.std.proofs.Common.{◌≡◌, ◌∙◌, refl, ℕ, ◌+◌, ◌≤◌, ◌<◌, List, [], ◌∷◌, ◌++◌, Option, Some, None, arith}
 use Rattle.aplc_syntax.specs.declared.tree.Primitive.{Primitive}
 use Rattle.aplc_syntax.specs.PlainTrees.{Tree, Trees, Argument, absent, given}
 use Rattle.aplc_syntax.specs.PlainTrees as t
 use Rattle.aplc_core.specs.PlainSteps.{Term, Literal, Read, Slot, Mono, Dyad, Index, Terms, no_more, left_out, and_term, Effect, Keep, Store, StoreAt, Call, ReadText, ReadNums, Show, Branch, id_of}
-use Rattle.aplc_core.specs.Lowering.{Cut, CutList, Kept, CutArgument, kept_term, kept, from_slot, and_kept, and_left_out, kept_terms, kept_all, before, all_before, dyad_of, index_of, list_of, cut_dyad, cut_index, cut_more, cut_mono, cut_assign, cut_show, assign_at_of, cut_assign_at, argument_kept, call_steps, call_of, cut_call, cut, cut_list, cut_argument}
+use Rattle.aplc_core.specs.Lowering.{Cut, CutList, Kept, CutArgument, kept_term, kept, from_slot, and_kept, kept_terms, kept_all, before, all_before, dyad_of, index_of, list_of, cut_dyad, cut_index, cut_more, cut_mono, cut_assign, cut_show, assign_at_of, argument_kept, call_steps, call_of, cut, cut_list, cut_argument}
 
 -- ---- Steps without a branch
 
@@ -270,7 +270,7 @@ mutual
 
 -- ---- Numbers
 
-pub kept_node : (xs : List Effect) (t : Term) (n : ℕ) → (kept_term xs t n).node ≡ id_of t
+kept_node : (xs : List Effect) (t : Term) (n : ℕ) → (kept_term xs t n).node ≡ id_of t
 kept_node xs (Slot i k) n = refl
 kept_node xs (Literal i k zs) n = refl
 kept_node xs (Read i m) n = refl
@@ -291,3 +291,6 @@ cut_node (t.Assign i p n a) k = refl
 cut_node (t.AssignAt i p n xs a) k = refl
 cut_node (t.Show i p a) k = refl
 cut_node (t.Call i p n a b) k = refl
+
+pub kept_id : (x : Tree) (k : ℕ) → (kept (cut x k)).node ≡ t.id_of x
+kept_id x k = kept_node (cut x k).steps (cut x k).term (cut x k).next ∙ cut_node x k

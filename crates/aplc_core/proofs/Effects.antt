@@ -1,5 +1,5 @@
 -- What the step of each effect comes to.
-use Rattle.std.proofs.Common.{◌≡◌, ◌∙◌, refl, sym, ap, ℕ, ◌+◌, ◌≤◌, ◌<◌, List, [], ◌∷◌, ◌++◌, Option, Some, None, Bool, true, if◌then◌else◌}
+use Rattle.std.proofs.Common.{◌≡◌, ◌∙◌, refl, sym, ap, ℕ, ◌+◌, ◌≤◌, List, [], ◌∷◌, ◌++◌, Option, Some, None, Bool, true, if◌then◌else◌}
 use Rattle.std.specs.Prelude.{Result, Ok, Err, option_map}
 use Rattle.aplc_scalar.specs.declared.kind.FaultKind.{FaultKind}
 use Rattle.aplc_arr.specs.Arrays.{Array, rank, product}
@@ -11,9 +11,9 @@ use Rattle.aplc_names.specs.declared.scope.Scope.TheVariants as scope
 use Rattle.aplc_names.specs.States.{World, State, Marking, Giving, Outcome, Gives, and_then, on_account, is_among, worked, released}
 use Rattle.aplc_names.specs.Eager.{Context, Use, passed, noted, ready, there, value_of_name, old_value, with_value, assigned, put, change, change_there, held_for_argument, function_of, called, value, argument}
 use Rattle.aplc_core.specs.PlainSteps.{Term, Read, Slot, Terms, Effect, Store, StoreAt, Call, Show}
-use Rattle.aplc_core.specs.CoreRuns.{Slots, set_slot, Told, use_in, value_kept, into_slot, kept_in, value_of, held_for_kept, called_with, read_again, read_name, term_value, term_values, step_done}
+use Rattle.aplc_core.specs.CoreRuns.{Slots, set_slot, Told, use_in, value_kept, kept_in, value_of, held_for_kept, called_with, read_again, read_name, term_value, term_values}
 use Rattle.aplc_core.specs.Lowering.{Kept, CutArgument, argument_kept}
-use Rattle.aplc_core.proofs.Carried.{then_then, then_same, Next, carried, carried_same, carried_more, giving, same_number, AgreeBelow, ReadsBelow, next_set, next_into}
+use Rattle.aplc_core.proofs.Carried.{then_then, then_same, carried_same, carried_more, giving, same_number, AgreeBelow, next_set, next_into}
 use Rattle.aplc_core.proofs.Cuts.{IsSlotBelow}
 use Rattle.aplc_core.proofs.Comes.{ComesTo, Comes, ComesKept, Does, kept_comes, does_come, comes_into, two_kept}
 
@@ -33,8 +33,8 @@ after_ready c i u m v s f g h = h _ refl
 read_back : {B : Type 0} (c : Context) (i n : ℕ) (u : Use) (m : ℕ) (b : Bool) → b ≡ true → (v : Array) (s : State) (next : Array → State → Outcome B) → and_then (ready c i u m v (assigned (c.scope n) n v s)) (λ w t. and_then (read_name c i u b n t) next) ≡ and_then (ready c i u m v (assigned (c.scope n) n v s)) next
 read_back c i n u m b e v s next =
     after_ready c i u m v (assigned (c.scope n) n v s) (λ w t. and_then (read_name c i u b n t) next) next (λ t q. (
-      ap (λ d. and_then (read_name c i u d n t) next) e
-      ∙ ap (λ o. and_then (read_again o t) next) (ap (old_value (c.scope n) n) q ∙ still_written (c.scope n) n i (1 + rank v + m) v s.world)))
+    ap (λ d. and_then (read_name c i u d n t) next) e
+    ∙ ap (λ o. and_then (read_again o t) next) (ap (old_value (c.scope n) n) q ∙ still_written (c.scope n) n i (1 + rank v + m) v s.world)))
 
 -- an indexed assignment gives the value that is assigned
 after_change : {B : Type 0} (c : Context) (i : ℕ) (u : Use) (n : ℕ) (js : List (Option Array)) (v : Array) (o : Option Array) (s : State) (f g : Array → State → Outcome B) → ((t : State) → f v t ≡ g v t) → and_then (change_there c i u n js v o s) f ≡ and_then (change_there c i u n js v o s) g
@@ -112,9 +112,9 @@ module _ (c : Context) (l : Told) where
   call_comes k n y x a b le below h g =
       comes_into c l k (y.steps ++ x.steps) (λ d u. called_with c n (kept_in d x.slot) (kept_in d y.slot) u) _ (λ s. called_eagerly c n a b s)
       (λ s. (
-        then_then (argument c b s) _ _
-        ∙ argument_same c b s _ _ (λ v u p. (
-          then_then (argument c a u) _ _ ∙ argument_same c a u _ _ (λ w z q. call_same c n a b w v z q p)))))
+      then_then (argument c b s) _ _
+      ∙ argument_same c b s _ _ (λ v u p. (
+      then_then (argument c a u) _ _ ∙ argument_same c a u _ _ (λ w z q. call_same c n a b w v z q p)))))
       (two_kept c l k y.next y.steps x.steps (λ d. kept_in d y.slot) (λ d u. Gives (kept_in d x.slot) u) (λ s. and_then (argument c b s) (λ v u. Gives (given_for b v) u)) (λ s. and_then (argument c a s) (λ v u. Gives (given_for a v) u)) (λ v w u. called_with c n w v u) le (λ d e q. same_kept y.next y.slot d e below q) h g)
 
   -- ---- The step of each effect
@@ -123,7 +123,7 @@ module _ (c : Context) (l : Told) where
   store_comes k i n xs x r e h next reads slots s =
       carried_more c l xs (Store i n x ∷ []) slots s _
       ∙ carried_same c l xs slots s _ _ (λ a u. (
-        then_then (term_value c l a x u) _ _ ∙ then_same (term_value c l a x u) _ _ (λ v w. read_back c i n (use_in l i) (product v.shape) (is_among i l.assigned) e v w (next a))))
+      then_then (term_value c l a x u) _ _ ∙ then_same (term_value c l a x u) _ _ (λ v w. read_back c i n (use_in l i) (product v.shape) (is_among i l.assigned) e v w (next a))))
       ∙ does_come c l k xs x r h (λ a v u. and_then (ready c i (use_in l i) (product v.shape) v (assigned (c.scope n) n v u)) (next a)) (λ a b q v u. then_same (ready c i (use_in l i) (product v.shape) v (assigned (c.scope n) n v u)) _ _ (λ w z. reads a b q w z)) slots s
       ∙ sym (then_then (r s) _ (next slots))
 
@@ -131,8 +131,8 @@ module _ (c : Context) (l : Told) where
   show_kept k i j m xs r le h next reads slots s =
       carried_more c l xs (Show (Some i) (Slot j m) ∷ []) slots s _
       ∙ carried_same c l xs slots s _ _ (λ a u. (
-        let v : Array = value_kept j (a m) in
-        after_ready c i (use_in l i) 0 v (put v u) (λ w z. next (set_slot m i v a) (set_slot m i v a m) z) (λ w z. next a (Some (giving i w)) z) (λ z q. next_set k m i next reads le v a z)))
+      let v : Array = value_kept j (a m) in
+      after_ready c i (use_in l i) 0 v (put v u) (λ w z. next (set_slot m i v a) (set_slot m i v a m) z) (λ w z. next a (Some (giving i w)) z) (λ z q. next_set k m i next reads le v a z)))
       ∙ kept_comes c l k xs j m r h (λ a v u. and_then (ready c i (use_in l i) 0 v (put v u)) (λ w z. next a (Some (giving i w)) z)) (λ a b q v u. then_same (ready c i (use_in l i) 0 v (put v u)) _ _ (λ w z. reads a b q (Some (giving i w)) z)) slots s
       ∙ sym (then_then (r s) _ (λ v u. next slots (Some (giving i v)) u))
 
@@ -140,19 +140,19 @@ module _ (c : Context) (l : Told) where
   store_at_kept k i n j m xs ts r le h next reads slots s =
       carried_more c l xs (StoreAt i n ts (Slot j m) ∷ []) slots s _
       ∙ carried_same c l xs slots s _ _ (λ a u. (
-        let v : Array = value_kept j (a m) in
-        then_then (term_values c l a ts u) _ _
-        ∙ then_same (term_values c l a ts u) _ _ (λ js w. (
-          then_then (change_there c i (use_in l i) n js v (value_of_name (c.scope n) n w.world) w) _ _
-          ∙ after_change c i (use_in l i) n js v (value_of_name (c.scope n) n w.world) w _ (λ d z. next a (Some (giving i d)) z) (λ z. next_set k m i next reads le v a z)))
-        ∙ sym (then_then (term_values c l a ts u) _ _)))
+      let v : Array = value_kept j (a m) in
+      then_then (term_values c l a ts u) _ _
+      ∙ then_same (term_values c l a ts u) _ _ (λ js w. (
+      then_then (change_there c i (use_in l i) n js v (value_of_name (c.scope n) n w.world) w) _ _
+      ∙ after_change c i (use_in l i) n js v (value_of_name (c.scope n) n w.world) w _ (λ d z. next a (Some (giving i d)) z) (λ z. next_set k m i next reads le v a z)))
+      ∙ sym (then_then (term_values c l a ts u) _ _)))
       ∙ h (λ a v u. next a (Some (giving i v)) u) (λ a b q v u. reads a b q (Some (giving i v)) u) slots s
 
   pub call_kept : (k i n m : ℕ) (xs : List Effect) (x y : Option ℕ) (r : State → Outcome (Option Array)) → k ≤ m → ComesTo c l k xs (λ a u. called_with c n (kept_in a x) (kept_in a y) u) r → ComesKept c l k (xs ++ Call i n x y (Some m) ∷ []) i m (λ s. and_then (r s) (λ v u. there c i (use_in l i) v u))
   call_kept k i n m xs x y r le h next reads slots s =
       carried_more c l xs (Call i n x y (Some m) ∷ []) slots s _
       ∙ carried_same c l xs slots s _ _ (λ a u. (
-        then_then (called_with c n (kept_in a x) (kept_in a y) u) _ _
-        ∙ then_same (called_with c n (kept_in a x) (kept_in a y) u) _ _ (λ v w. next_into k m i next reads le (there c i (use_in l i) v w) a)))
+      then_then (called_with c n (kept_in a x) (kept_in a y) u) _ _
+      ∙ then_same (called_with c n (kept_in a x) (kept_in a y) u) _ _ (λ v w. next_into k m i next reads le (there c i (use_in l i) v w) a)))
       ∙ h (λ a v u. and_then (there c i (use_in l i) v u) (λ w z. next a (Some (giving i w)) z)) (λ a b q v u. then_same (there c i (use_in l i) v u) _ _ (λ w z. reads a b q (Some (giving i w)) z)) slots s
       ∙ sym (then_then (r s) _ (λ v u. next slots (Some (giving i v)) u))

@@ -1,20 +1,19 @@
 -- What the cut of each form comes to, where those of its parts come to what the parts are evaluated to.
-use Rattle.std.proofs.Common.{◌≡◌, ◌∙◌, refl, sym, ap, subst, ℕ, ◌+◌, ◌≤◌, List, [], ◌∷◌, ◌++◌, Option, Some, None, true, arith}
-use Rattle.aplc_scalar.specs.declared.kind.Kind.{Kind}
+use Rattle.std.proofs.Common.{◌≡◌, ◌∙◌, refl, sym, ap, subst, ℕ, ◌≤◌, List, [], ◌∷◌, ◌++◌, Option, Some, None, true, arith}
 use Rattle.aplc_arr.specs.Arrays.{Array, product}
 use Rattle.aplc_arr.specs.Indexing.{indexed}
 use Rattle.aplc_syntax.specs.declared.tree.Primitive.{Primitive}
 use Rattle.aplc_syntax.specs.PlainTrees.{Argument}
 use Rattle.aplc_names.specs.Primitives.{mono_of, mono_applications, dyad_applications, places_listed}
 use Rattle.aplc_names.specs.Primitives as primitive
-use Rattle.aplc_names.specs.States.{State, Giving, Outcome, Gives, and_then, is_among}
+use Rattle.aplc_names.specs.States.{State, Outcome, Gives, and_then, is_among}
 use Rattle.aplc_names.specs.Eager.{Context, ready, made, none_for, there, value_of_name, assigned, put, change_there}
-use Rattle.aplc_core.specs.PlainSteps.{Term, Read, Slot, Mono, Dyad, Index, Terms, and_term, Effect, StoreAt, Call}
+use Rattle.aplc_core.specs.PlainSteps.{Effect}
 use Rattle.aplc_core.specs.CoreRuns.{Slots, Told, use_in, value_kept, into_slot, term_value, term_values, step_done}
-use Rattle.aplc_core.specs.Lowering.{Cut, CutList, Kept, CutArgument, kept, kept_all, before, all_before, then_cut, list_then_cut, dyad_of, index_of, list_of, and_left_out, cut_dyad, cut_index, cut_more, cut_mono, cut_assign, cut_show, assign_at_of, call_of}
-use Rattle.aplc_core.proofs.Carried.{then_then, then_same, Next, carried, carried_same, giving, AgreeBelow, ReadsBelow, next_into}
-use Rattle.aplc_core.proofs.Cuts.{Fits, FitsList, FitsKept, FitsArgument, FitsSlots, kept_fits, all_kept}
-use Rattle.aplc_core.proofs.Comes.{ComesTo, Comes, ComesKept, Does, kept_comes, does_come, is_kept, comes_as, comes_into, comes_then, two_come, two_kept}
+use Rattle.aplc_core.specs.Lowering.{Cut, CutList, Kept, CutArgument, kept, kept_all, before, all_before, and_left_out, cut_dyad, cut_index, cut_more, cut_mono, cut_assign, cut_show, assign_at_of, call_of}
+use Rattle.aplc_core.proofs.Carried.{next_into}
+use Rattle.aplc_core.proofs.Cuts.{Fits, FitsList, FitsKept, FitsArgument, kept_fits, all_kept}
+use Rattle.aplc_core.proofs.Comes.{ComesTo, Comes, ComesKept, Does, kept_comes, does_come, is_kept, comes_as, comes_then, two_come, two_kept}
 use Rattle.aplc_core.proofs.KeptLists.{slot_values, same_slots, slots_give, list_kept}
 use Rattle.aplc_core.proofs.Effects.{ArgumentComes, call_comes, called_eagerly, store_comes, show_kept, store_at_kept, call_kept}
 

@@ -1,5 +1,5 @@
 -- The core run of a program is its eager run.
-use Rattle.std.proofs.Common.{◌≡◌, ◌∙◌, refl, sym, ap, subst, ℕ, zero, suc, ◌+◌, List, [], ◌∷◌, ◌++◌, Option, Some, None, map, All}
+use Rattle.std.proofs.Common.{◌≡◌, ◌∙◌, refl, ap, subst, ℕ, zero, suc, ◌+◌, List, [], ◌∷◌, ◌++◌, Option, Some, None, map}
 use Rattle.std.proofs.Math.Path.{fun_ext}
 use Rattle.std.specs.Prelude.{option_map, option_and_then, slice_get, unwrap_or, nat_lt, if◌then◌else◌}
 use Rattle.std.specs.List.{AllByRecursion}
@@ -11,10 +11,10 @@ use Rattle.aplc_names.specs.PlainPrograms.{Action, Routine, PlainProgram, no_rou
 use Rattle.aplc_names.specs.States.{Place, World, State, Marking, Outcome, Gives, and_then, on_world, at_line, depth}
 use Rattle.aplc_names.specs.States as outcome
 use Rattle.aplc_names.specs.Eager.{Caller, Context, statement}
-use Rattle.aplc_names.specs.Runs.{Runner, call_routine, caller, entered, back, depth_limit, line_at, marks_of, started, after, from_line, context, run, initial, evaluated}
-use Rattle.aplc_core.specs.CoreRuns.{CoreRoutine, PlainCore, CoreRunner, no_core, core_called, core_caller, steps_at, marks_of_steps, begun, line_done, from_steps, core_context, core_run, main_core, core_main, core_evaluated}
+use Rattle.aplc_names.specs.Runs.{call_routine, caller, entered, back, depth_limit, line_at, started, after, from_line, context, run, initial, evaluated}
+use Rattle.aplc_core.specs.CoreRuns.{no_core, core_called, core_caller, steps_at, line_done, from_steps, core_context, core_run, core_main, core_evaluated}
 use Rattle.aplc_core.specs.Lowering.{lowered, lowered_routine, lowered_program}
-use Rattle.aplc_core.specs.CoreLaws.{IsNumbered, HasNumberedLines, HasNumberedNodes, CoreIsEager, LoweringKeepsRuns}
+use Rattle.aplc_core.specs.CoreLaws.{IsNumbered, HasNumberedLines, HasDistinctNodes, LoweringKeepsRuns}
 use Rattle.aplc_core.proofs.Carried.{then_same}
 use Rattle.aplc_core.proofs.Statements.{marks_same, line_is_statement}
 
@@ -34,7 +34,7 @@ with_call p m f g = record { origin = p.origin; scope = f.scope; marking = m; ca
 abbrev with_marks : ℕ → ℕ → List Place → World → World
 with_marks l k ms w = record w { left = k; places = at_line l w.places; marks = w.marks ++ ms }
 
-module _ (p : PlainProgram) (m : Marking) (own : HasNumberedNodes p) where
+module _ (p : PlainProgram) (m : Marking) (own : HasDistinctNodes p) where
   -- what has been shown of runs that nest at most k deep
   abbrev RunsSame : ℕ → Type 0
   RunsSame k = (f : Routine) → HasNumberedLines f → (l : ℕ) (s : State) → core_run (lowered_program p) m k (lowered_routine f) l s ≡ run p m k f l s

@@ -1,12 +1,12 @@
 -- The places of an index list, each kept in a slot: the list comes to what it came to.
-use Rattle.std.proofs.Common.{◌≡◌, ◌∙◌, refl, sym, ap, ℕ, ◌+◌, ◌≤◌, ◌<◌, List, [], ◌∷◌, ◌++◌, Option, Some, None, arith}
+use Rattle.std.proofs.Common.{◌≡◌, ◌∙◌, refl, sym, ap, ℕ, ◌+◌, ◌<◌, List, [], ◌∷◌, ◌++◌, Option, Some, None, arith}
 use Rattle.aplc_arr.specs.Arrays.{Array}
-use Rattle.aplc_names.specs.States.{State, Giving, Outcome, Gives, and_then}
+use Rattle.aplc_names.specs.States.{State, Outcome, Gives, and_then}
 use Rattle.aplc_names.specs.Eager.{Context}
 use Rattle.aplc_core.specs.PlainSteps.{Term, Literal, Read, Slot, Mono, Dyad, Index, Terms, no_more, left_out, and_term, Effect, Keep, id_of}
 use Rattle.aplc_core.specs.CoreRuns.{Slots, Told, value_kept, into_slot, term_value, term_values}
 use Rattle.aplc_core.specs.Lowering.{CutList, kept_term, and_kept, kept_terms, kept_all}
-use Rattle.aplc_core.proofs.Carried.{then_then, then_same, then_at, Next, carried, carried_same, carried_more, giving, AgreeBelow, agree_below, ReadsBelow, next_into}
+use Rattle.aplc_core.proofs.Carried.{then_then, then_same, then_at, Next, carried, carried_same, carried_more, AgreeBelow, agree_below, ReadsBelow, next_into}
 use Rattle.aplc_core.proofs.Cuts.{HasNoBranch, IsBelow, AreBelow, AreSlots, FitsList, FitsSlots, places_kept}
 use Rattle.aplc_core.proofs.Comes.{ComesTo, kept_value}
 
@@ -86,12 +86,12 @@ module _ (c : Context) (l : Told) where
   kept_place n x xs ts ys below fits h next reads slots s =
       carried_more c l ys.steps (Keep ys.next x ∷ []) slots s _
       ∙ carried_same c l ys.steps slots s _ _ (λ a t. (
-        kept_behind ys.next (id_of x) ys.terms fits.slots next (λ b d e. reads b d (agree_below n ys.next b d fits.next e)) (term_value c l a x t) a
-        ∙ sym (ap (λ o. and_then o (λ vs u. and_then (term_value c l a x u) (λ v w. next a (Some v ∷ vs) w))) (slots_give ys.next ys.terms fits.slots a t))))
+      kept_behind ys.next (id_of x) ys.terms fits.slots next (λ b d e. reads b d (agree_below n ys.next b d fits.next e)) (term_value c l a x t) a
+      ∙ sym (ap (λ o. and_then o (λ vs u. and_then (term_value c l a x u) (λ v w. next a (Some v ∷ vs) w))) (slots_give ys.next ys.terms fits.slots a t))))
       ∙ h (λ a vs u. and_then (term_value c l a x u) (λ v w. next a (Some v ∷ vs) w)) (λ a b e vs u. (
-        ap (λ o. and_then o (λ v w. next a (Some v ∷ vs) w)) (same_term n x a b below e u) ∙ then_same (term_value c l b x u) _ _ (λ v w. reads a b e (Some v ∷ vs) w))) slots s
+      ap (λ o. and_then o (λ v w. next a (Some v ∷ vs) w)) (same_term n x a b below e u) ∙ then_same (term_value c l b x u) _ _ (λ v w. reads a b e (Some v ∷ vs) w))) slots s
       ∙ sym (carried_same c l xs slots s _ _ (λ a t. (
-        then_then (term_values c l a ts t) _ (next a) ∙ then_same (term_values c l a ts t) _ _ (λ vs u. then_then (term_value c l a x u) _ (next a)))))
+      then_then (term_values c l a ts t) _ (next a) ∙ then_same (term_values c l a ts t) _ _ (λ vs u. then_then (term_value c l a x u) _ (next a)))))
 
   place_same : (n : ℕ) (x : Term) (xs : List Effect) (ts : Terms) (ys : CutList) → IsBelow n x → FitsSlots n ys → KeepsList n xs ts ys → KeepsList n xs (and_term x ts) (and_kept (kept_term ys.steps x ys.next) ys.terms)
   place_same n (Slot i j) xs ts ys below fits h = slot_place n i j xs ts ys below h

@@ -11,6 +11,7 @@ mod LoweringExamples
 mod Marks
 mod Numbered
 mod Ordered
+mod ResolvedRuns
 mod Saying
 mod Statements
 mod Structured

@@ -1,14 +1,14 @@
 -- How often a number stands in what a line says of its nodes: as often as the trees of its statement have such a node.
-use Rattle.std.proofs.Common.{◌≡◌, ◌∙◌, refl, sym, ap, ℕ, ◌+◌, ◌≤◌, List, [], ◌∷◌, ◌++◌, Option, Some, None, arith}
+use Rattle.std.proofs.Common.{◌≡◌, ◌∙◌, refl, ap, ℕ, ◌+◌, List, [], ◌∷◌, ◌++◌, Option, Some, arith}
 use Rattle.aplc_syntax.specs.PlainTrees.{Tree, Trees, Argument, absent, given, id_of, ids, trees_ids, argument_ids}
 use Rattle.aplc_syntax.specs.declared.tree.Primitive.{Primitive}
 use Rattle.aplc_syntax.specs.PlainTrees as t
-use Rattle.aplc_syntax.proofs.Own.{one_at, cnt, cnt_append}
+use Rattle.aplc_syntax.proofs.Own.{one_at, cnt}
 use Rattle.aplc_core.specs.PlainSteps.{Term, Literal, Read, Slot, Mono, Dyad, Index, Terms, no_more, left_out, and_term, Effect, Keep, Store, StoreAt, Call, ReadText, ReadNums, Show, Branch}
 use Rattle.aplc_core.specs.PlainSteps as step
 use Rattle.aplc_core.specs.CoreRuns.{Told, told_by, told}
-use Rattle.aplc_core.specs.Lowering.{Cut, CutList, Kept, CutArgument, kept_term, kept, kept_terms, kept_all, before, all_before, and_kept, dyad_of, index_of, list_of, cut_dyad, cut_index, cut_more, call_steps, cut, cut_list, cut_argument}
-use Rattle.aplc_core.proofs.Cuts.{cut_node}
+use Rattle.aplc_core.specs.Lowering.{Cut, CutList, CutArgument, kept_term, kept, kept_terms, before, all_before, cut_dyad, cut_index, cut_more, call_steps, cut, cut_list, cut_argument}
+use Rattle.aplc_core.proofs.Cuts.{cut_node, kept_id}
 
 -- what a line says of a node
 pub data Mark : Type 0 where
@@ -182,17 +182,6 @@ call_tally m q i n y x r a b h g =
     let d = tally_append m q y.steps x.steps in
     omega (arith, h, g, s, d)
 
-kept_node_id : (x : Tree) (k : ℕ) → step.id_of (Slot (kept (cut x k)).node (kept (cut x k)).slot) ≡ id_of x
-kept_node_id x k = by_term (cut x k).steps (cut x k).term (cut x k).next ∙ cut_node x k
-  where
-    by_term : (xs : List Effect) (y : Term) (n : ℕ) → (kept_term xs y n).node ≡ step.id_of y
-    by_term xs (Slot i j) n = refl
-    by_term xs (Literal i j zs) n = refl
-    by_term xs (Read i j) n = refl
-    by_term xs (Mono i f b) n = refl
-    by_term xs (Dyad i f a b) n = refl
-    by_term xs (Index i a js) n = refl
-
 mutual
   pub cut_tally : (m : Mark) (q : ℕ) (x : Tree) (k : ℕ) → tally m q (cut x k).steps ≡ marks m q x
   cut_tally m q (t.Numbers i p zs) k = tally_none m q
@@ -209,7 +198,7 @@ mutual
   cut_tally m q (t.AssignAt i p n xs a) k =
       change_tally m q i n (kept (cut a k)).steps (cut_list xs (kept (cut a k)).next).steps _ _ (marks_all m q xs) (marks m q a) (kept_tally m q (cut a k).steps (cut a k).term (cut a k).next ∙ cut_tally m q a k) (list_tally m q xs (kept (cut a k)).next)
   cut_tally m q (t.Show i p a) k =
-      show_tally m q (kept (cut a k)).steps (Some i) (Slot (kept (cut a k)).node (kept (cut a k)).slot) (marks m q a) (id_of a) (kept_tally m q (cut a k).steps (cut a k).term (cut a k).next ∙ cut_tally m q a k) (kept_node_id a k)
+      show_tally m q (kept (cut a k)).steps (Some i) (Slot (kept (cut a k)).node (kept (cut a k)).slot) (marks m q a) (id_of a) (kept_tally m q (cut a k).steps (cut a k).term (cut a k).next ∙ cut_tally m q a k) (kept_id a k)
   cut_tally m q (t.Call i p n a b) k =
       call_tally m q i n (cut_argument b k) (cut_argument a (cut_argument b k).next) _ (marks_given m q a) (marks_given m q b) (given_tally m q b k) (given_tally m q a (cut_argument b k).next)
 

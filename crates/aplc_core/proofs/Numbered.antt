@@ -1,5 +1,5 @@
 -- Where each node of a statement has its own number, the line tells of its nodes what evaluation hands down.
-use Rattle.std.proofs.Common.{◌≡◌, ◌∙◌, refl, sym, ap, ℕ, ◌+◌, ◌≤◌, List, [], ◌∷◌, ◌++◌, Bool, true, false, nat_eq, cond, if◌then◌else◌, arith}
+use Rattle.std.proofs.Common.{◌≡◌, ◌∙◌, refl, ap, ℕ, ◌+◌, ◌≤◌, List, [], ◌∷◌, ◌++◌, Bool, true, false, nat_eq, cond, if◌then◌else◌, arith}
 use Rattle.std.specs.Prelude.{◌||◌}
 use Rattle.std.proofs.lemmas.Bool.{eq-eqb}
 use Rattle.aplc_syntax.specs.PlainTrees.{Tree, Trees, Argument, absent, given, id_of, ids, trees_ids, argument_ids}
@@ -279,16 +279,14 @@ mutual
   )
   tells l u (t.Dyad i p f a b) h once =
       let g = inside l u i (ids a ++ ids b) (λ m q. marks m q a + marks m q b) h once in
-      let o = once_inside i (ids a ++ ids b) once in
-      (
+      let o = once_inside i (ids a ++ ids b) once in (
         root_use l u (t.Dyad i p f a b) h once,
         tells l passed a (as_passed l a (left_part l (ids a) (ids b) (λ m q. marks m q a) (λ m q. marks m q b) (λ m q. within m q b) g o)) (once_left (ids a) (ids b) o),
         tells l passed b (as_passed l b (right_part l (ids a) (ids b) (λ m q. marks m q a) (λ m q. marks m q b) (λ m q. within m q a) g o)) (once_right (ids a) (ids b) o),
       )
   tells l u (t.Index i p a xs) h once =
       let g = inside l u i (ids a ++ trees_ids xs) (λ m q. marks m q a + marks_all m q xs) h once in
-      let o = once_inside i (ids a ++ trees_ids xs) once in
-      (
+      let o = once_inside i (ids a ++ trees_ids xs) once in (
         root_use l u (t.Index i p a xs) h once,
         tells l passed a (as_passed l a (left_part l (ids a) (trees_ids xs) (λ m q. marks m q a) (λ m q. marks_all m q xs) (λ m q. all_within m q xs) g o)) (once_left (ids a) (trees_ids xs) o),
         tells_all l xs (right_part l (ids a) (trees_ids xs) (λ m q. marks m q a) (λ m q. marks_all m q xs) (λ m q. within m q a) g o) (once_right (ids a) (trees_ids xs) o),
@@ -300,8 +298,7 @@ mutual
   )
   tells l u (t.AssignAt i p n xs a) h once =
       let g = inside l u i (trees_ids xs ++ ids a) (λ m q. marks_all m q xs + marks m q a) h once in
-      let o = once_inside i (trees_ids xs ++ ids a) once in
-      (
+      let o = once_inside i (trees_ids xs ++ ids a) once in (
         root_use l u (t.AssignAt i p n xs a) h once,
         tells l passed a (as_passed l a (right_part l (trees_ids xs) (ids a) (λ m q. marks_all m q xs) (λ m q. marks m q a) (λ m q. all_within m q xs) g o)) (once_right (trees_ids xs) (ids a) o),
         tells_all l xs (left_part l (trees_ids xs) (ids a) (λ m q. marks_all m q xs) (λ m q. marks m q a) (λ m q. within m q a) g o) (once_left (trees_ids xs) (ids a) o),
@@ -312,8 +309,7 @@ mutual
   )
   tells l u (t.Call i p n a b) h once =
       let g = inside l u i (argument_ids a ++ argument_ids b) (λ m q. marks_given m q a + marks_given m q b) h once in
-      let o = once_inside i (argument_ids a ++ argument_ids b) once in
-      (
+      let o = once_inside i (argument_ids a ++ argument_ids b) once in (
         root_use l u (t.Call i p n a b) h once,
         tells_given l a (left_part l (argument_ids a) (argument_ids b) (λ m q. marks_given m q a) (λ m q. marks_given m q b) (λ m q. given_within m q b) g o) (once_left (argument_ids a) (argument_ids b) o),
         tells_given l b (right_part l (argument_ids a) (argument_ids b) (λ m q. marks_given m q a) (λ m q. marks_given m q b) (λ m q. given_within m q a) g o) (once_right (argument_ids a) (argument_ids b) o),

@@ -4,27 +4,26 @@ use Rattle.std.specs.Prelude.{◌≢◌}
 use Rattle.std.specs.List.{AllByRecursion, IsDistinct}
 use Rattle.std.proofs.lemmas.Bool.Decides.{eqb_tells}
 use Rattle.std.proofs.lemmas.Map.Keys.{IsDistinct-head, IsDistinct-tail}
-use Rattle.aplc_arr.specs.Arrays.{Array, product}
+use Rattle.aplc_arr.specs.Arrays.{product}
 use Rattle.aplc_syntax.specs.PlainTrees.{Tree, Trees, Argument, id_of, ids, argument_ids}
 use Rattle.aplc_syntax.specs.PlainTrees as t
 use Rattle.aplc_syntax.proofs.Own.{one_at, cnt}
 use Rattle.aplc_names.specs.PlainPrograms.{Action, nothing, quiet, perform, display, branch}
 use Rattle.aplc_names.specs.Runs.{marks_of}
-use Rattle.aplc_names.specs.States.{Place, State, Giving, Outcome, Gives, and_then, on_world, on_account, worked, ended}
-use Rattle.aplc_names.specs.Eager.{Context, Use, passed, stored, displayed, ready, assigned, put, value_of_name, change_there, called, value, values, argument, branch_to, branched, statement}
-use Rattle.aplc_core.specs.PlainSteps.{Term, Literal, Read, Slot, Mono, Dyad, Index, Terms, Effect, Keep, Store, StoreAt, Call, ReadText, ReadNums, Show, Branch}
+use Rattle.aplc_names.specs.States.{Place, State, Outcome, Gives, and_then, on_world, on_account, worked, ended}
+use Rattle.aplc_names.specs.Eager.{Context, passed, stored, displayed, ready, assigned, put, value_of_name, change_there, value, values, argument, branch_to, branched, statement}
+use Rattle.aplc_core.specs.PlainSteps.{Term, Literal, Read, Slot, Mono, Dyad, Index, Effect, Keep, Store, StoreAt, Call, ReadText, ReadNums, Show, Branch}
 use Rattle.aplc_core.specs.CoreRuns.{Slots, no_slots, Told, told, use_in, kept_in, called_with, term_value, term_values, step_done, steps_done, line_done, marks_of_steps}
-use Rattle.aplc_core.specs.Lowering.{Cut, CutList, CutArgument, kept_term, kept, before, change_steps, call_steps, cut, cut_list, cut_argument, quiet_steps, lowered}
-use Rattle.aplc_core.specs.CoreLaws.{action_ids, IsNumbered, LineIsStatement}
+use Rattle.aplc_core.specs.Lowering.{Cut, CutList, CutArgument, kept_term, kept, before, cut, cut_list, cut_argument, quiet_steps, lowered}
+use Rattle.aplc_core.specs.CoreLaws.{IsNumbered, LineIsStatement}
 use Rattle.aplc_core.proofs.Carried.{then_then, then_same, carried, carried_same}
-use Rattle.aplc_core.proofs.Cuts.{HasNoBranch, none_more, Fits, cut_fits, list_fits, given_fits, kept_fits, before_fits}
-use Rattle.aplc_core.proofs.Comes.{ComesTo, Comes, does_come}
+use Rattle.aplc_core.proofs.Cuts.{HasNoBranch, none_more, cut_fits, list_fits, given_fits, kept_fits, before_fits, cut_node}
+use Rattle.aplc_core.proofs.Comes.{ComesTo, does_come}
 use Rattle.aplc_core.proofs.Effects.{call_comes, called_eagerly}
 use Rattle.aplc_core.proofs.Forms.{kept_does, two_of_tree}
-use Rattle.aplc_core.proofs.Tells.{Tells, TellsAll, TellsGiven, tree_does, list_does, given_does}
-use Rattle.aplc_core.proofs.Marks.{Mark, tally, tally_one, kept_tally, before_tally, marks, marks_all, marks_given, assign_tally, show_tally, change_tally, call_tally, cut_tally, list_tally, given_tally}
-use Rattle.aplc_core.proofs.Cuts.{cut_node}
-use Rattle.aplc_core.proofs.Numbered.{Agrees, Once, once_inside, as_passed, none_passed, show_displays, tells, both_given}
+use Rattle.aplc_core.proofs.Tells.{Tells, tree_does, list_does, given_does}
+use Rattle.aplc_core.proofs.Marks.{tally_one, kept_tally, before_tally, marks, marks_all, marks_given, assign_tally, show_tally, change_tally, call_tally, cut_tally, list_tally, given_tally}
+use Rattle.aplc_core.proofs.Numbered.{Agrees, Once, once_inside, as_passed, show_displays, tells, both_given}
 
 -- ---- Lines
 
@@ -201,11 +200,11 @@ change_runs c i p n xs a own s =
     let h : Tells l passed x = tells l passed x agrees own in
     let both = two_of_tree c l 0 y0 (λ k. (cut_list xs k).steps) (λ k b u. term_values c l b (cut_list xs k).terms u) (λ w. value c a passed w) (λ w. values c xs w) (λ v vs u. change_there c i (use_in l i) n vs v (value_of_name (c.scope n) n u.world) u) (cut_fits a 0) (tree_does c l a passed h.1 0) (λ k. list_does c l xs h.2 k) ys refl in
     last_step c (z.steps ++ js.steps) y (λ b u. and_then (term_value c l b z.term u) (λ v u1. and_then (term_values c l b js.terms u1) (λ vs u2. change_there c i (use_in l i) n vs v (value_of_name (c.scope n) n u2.world) u2))) (λ u. and_then (value c a passed u) (λ v u1. and_then (values c xs u1) (λ vs u2. change_there c i (use_in l i) n vs v (value_of_name (c.scope n) n u2.world) u2))) (λ w u. over u) (none_more z.steps js.steps (before_fits 0 y0 ys (cut_fits a 0)).plain (list_fits xs z.next).plain) both (λ b u. (
-      then_then (term_value c l b z.term u) _ _
-      ∙ then_same (term_value c l b z.term u) _ _ (λ v u1. (
-        then_then (term_values c l b js.terms u1) _ _
-        ∙ then_same (term_values c l b js.terms u1) _ _ (λ vs u2. then_then (change_there c i (use_in l i) n vs v (value_of_name (c.scope n) n u2.world) u2) _ _)))
-      ∙ sym (then_then (term_value c l b z.term u) _ _ ∙ then_same (term_value c l b z.term u) _ _ (λ v u1. then_then (term_values c l b js.terms u1) _ _)))) s
+    then_then (term_value c l b z.term u) _ _
+    ∙ then_same (term_value c l b z.term u) _ _ (λ v u1. (
+    then_then (term_values c l b js.terms u1) _ _
+    ∙ then_same (term_values c l b js.terms u1) _ _ (λ vs u2. then_then (change_there c i (use_in l i) n vs v (value_of_name (c.scope n) n u2.world) u2) _ _)))
+    ∙ sym (then_then (term_value c l b z.term u) _ _ ∙ then_same (term_value c l b z.term u) _ _ (λ v u1. then_then (term_values c l b js.terms u1) _ _)))) s
     ∙ ap (λ w. and_then (and_then (value c a passed s) (λ v u1. and_then (values c xs u1) (λ vs u2. change_there c i w n vs v (value_of_name (c.scope n) n u2.world) u2))) (λ d u. over u)) h.0
 
 -- a value that nothing else uses is kept

@@ -1,21 +1,20 @@
 -- Trees whose line says of their nodes what evaluation hands down: the cut of such a tree comes to what the tree is evaluated to.
-use Rattle.std.proofs.Common.{◌≡◌, ◌∙◌, refl, sym, ap, subst, ℕ, List, [], ◌∷◌, Option, Some, None, Bool, true, false, map, length, pos, ℤ}
+use Rattle.std.proofs.Common.{◌≡◌, ◌∙◌, refl, ap, subst, ℕ, List, Some, true, false, map, pos, ℤ}
 use Rattle.std.proofs.lemmas.List.{length-map}
 use Rattle.aplc_scalar.specs.declared.kind.Kind.TheVariants.{Num, Char}
 use Rattle.aplc_scalar.specs.Input.{input_line, number_line}
-use Rattle.aplc_arr.specs.Arrays.{Array}
 use Rattle.aplc_syntax.specs.PlainTrees.{Tree, Trees, Argument, absent, given, id_of}
 use Rattle.aplc_syntax.specs.PlainTrees as t
-use Rattle.aplc_names.specs.States.{State, Giving, Outcome, Gives, and_then, is_among}
-use Rattle.aplc_names.specs.Eager.{Context, Use, passed, stored, displayed, ready, literal, value_of_name, there, read_line, called, value, values, argument}
-use Rattle.aplc_core.specs.PlainSteps.{Literal, Read, Effect, ReadText, ReadNums}
-use Rattle.aplc_core.specs.CoreRuns.{Slots, Told, use_in, read_name}
+use Rattle.aplc_names.specs.States.{and_then, is_among}
+use Rattle.aplc_names.specs.Eager.{Context, Use, passed, stored, displayed, ready, literal, there, read_line, called, value, values, argument}
+use Rattle.aplc_core.specs.PlainSteps.{Effect, ReadText, ReadNums}
+use Rattle.aplc_core.specs.CoreRuns.{Told, use_in, read_name}
 use Rattle.aplc_core.specs.Lowering.{Kept, kept, call_steps, cut, cut_list, cut_argument}
 use Rattle.aplc_core.proofs.Carried.{then_then, then_same, giving}
-use Rattle.aplc_core.proofs.Cuts.{kept_fits, cut_fits, list_fits, given_fits, kept_node, cut_node}
-use Rattle.aplc_core.proofs.Comes.{Comes, ComesKept}
+use Rattle.aplc_core.proofs.Cuts.{kept_fits, cut_fits, list_fits, given_fits, kept_id}
+use Rattle.aplc_core.proofs.Comes.{ComesKept}
 use Rattle.aplc_core.proofs.Effects.{ArgumentComes, argument_comes, called_eagerly}
-use Rattle.aplc_core.proofs.Forms.{CutDoes, ListDoes, KeptDoes, kept_does, input_does, mono_does, dyad_does, left_does, more_does, index_does, assign_does, show_does, change_does, call_does}
+use Rattle.aplc_core.proofs.Forms.{CutDoes, ListDoes, kept_does, input_does, mono_does, dyad_does, left_does, more_does, index_does, assign_does, show_does, change_does, call_does}
 
 abbrev mutual
   -- the line tells the use u of the tree's node, the uses of all nodes in it, and which of them are assignments to names
@@ -57,9 +56,6 @@ module _ (c : Context) (l : Told) where
   regrouped k i j n u xs a b h next reads slots s =
       h next reads slots s
       ∙ ap (λ o. and_then o (λ v w. next slots (Some (giving i v)) w)) (then_then (argument c b s) _ _ ∙ then_same (argument c b s) _ _ (λ y s1. then_then (argument c a s1) _ _))
-
-  node_kept : (x : Tree) (k : ℕ) → (kept (cut x k)).node ≡ id_of x
-  node_kept x k = kept_node (cut x k).steps (cut x k).term (cut x k).next ∙ cut_node x k
 
   mutual
     pub tree_does : (x : Tree) (u : Use) → Tells l u x → (k : ℕ) → CutDoes c l k (cut x k) (λ s. value c x u s)
@@ -107,4 +103,4 @@ module _ (c : Context) (l : Told) where
     pub given_does : (a : Argument) → TellsGiven l a → (k : ℕ) → ArgumentComes c l k (cut_argument a k) a
     given_does absent h k = λ next reads slots s. refl
     given_does (given x) h k =
-        argument_comes c l k (kept (cut x k)) x (node_kept x k) (kept_does c l k (cut x k) (λ s. value c x passed s) (cut_fits x k) (tree_does x passed h k))
+        argument_comes c l k (kept (cut x k)) x (kept_id x k) (kept_does c l k (cut x k) (λ s. value c x passed s) (cut_fits x k) (tree_does x passed h k))

@@ -2,8 +2,10 @@
 //! It must not know what is held in memory, nor how C is written.
 #![tactic(auto)]
 
+mod laws;
 mod laws_of_steps;
 mod step;
 
+pub use laws::{bound_keeps_runs, keeps_runs};
 pub use laws_of_steps::{no_node_twice, order_has_each_node, steps_say_statements};
 pub use step::{SlotId, Step, Tree};

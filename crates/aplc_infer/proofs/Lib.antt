@@ -18,6 +18,7 @@ pub mod Entries
 pub mod AllRules
 pub mod Raised
 pub mod Pooled
+pub mod PooledFacts
 pub mod Rowed
 pub mod Numbered
 pub mod Stepping

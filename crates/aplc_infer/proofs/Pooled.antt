@@ -1,6 +1,8 @@
 -- Facts in a pool, and what raising one does to the rows of numbers into it.
-use Rattle.std.proofs.Common.{◌≡◌, ◌∙◌, sym, ap, refl, subst, ℕ, zero, suc, ◌<◌, ◌≤◌, List, [], ◌∷◌, ◌++◌, length, map, Option, Some, None, Bool, true, false, if◌then◌else◌, nat_eq, arith, set, get_or, slice_get}
+use Rattle.std.proofs.Common.{◌≡◌, ◌∙◌, sym, ap, refl, subst, ℕ, zero, suc, ◌<◌, ◌≤◌, List, [], ◌∷◌, ◌++◌, length, map, Option, Some, None, Bool, true, false, if◌then◌else◌, nat_eq, arith, set, get_or, slice_get, take, ◌+◌}
 use Rattle.std.specs.Prelude.{unwrap_or, replicate}
+use Rattle.std.specs.List.{list_any}
+use Rattle.indexmap.specs.IndexSet.{insert_key}
 use Rattle.std.proofs.lemmas.Bool.Decides.{nat_tests}
 use Rattle.std.proofs.lemmas.List.{map-set}
 use Rattle.std.proofs.lemmas.Option.{slice_get-get_or}
@@ -9,6 +11,7 @@ use Rattle.aplc_infer.specs.declared.fact.FactKind.TheVariants.{Bit, Num, Char, 
 use Rattle.aplc_infer.specs.declared.fact.Inferred.{Inferred}
 use Rattle.aplc_infer.specs.declared.fact.Inferred.TheVariants.{Unset, Of}
 use Rattle.aplc_infer.specs.Facts.{kind_below, length_below, lengths_below, shape_below, below, kind_join, length_join, lengths_join, shape_join, join, IsShort}
+use Rattle.aplc_infer.specs.Sameness.{same, same_equal}
 use Rattle.aplc_infer.specs.Seeing.{at}
 use Rattle.aplc_infer.specs.Pools.{spelled, all_spelled, IsHoused, AreHoused, Grows, IsBlank, AreBlank}
 use Rattle.aplc_infer.specs.Rising.{look_or, at2, RowRises, RowsRise, room_row}
@@ -16,59 +19,11 @@ use Rattle.aplc_infer.proofs.Trials.{left_true, right_true}
 use Rattle.aplc_infer.proofs.Order.{lengths_same}
 use Rattle.aplc_infer.proofs.Raised.{row_stays, row_rises, found_at, lifted}
 
--- ---- Facts that lie below each other
-
-kind_same : (a b : FactKind) → kind_below a b ≡ true → kind_below b a ≡ true → a ≡ b
-kind_same Bit Bit h k = refl
-kind_same Bit Num h k = cc
-kind_same Bit Char h k = cc
-kind_same Bit Mixed h k = cc
-kind_same Num Bit h k = cc
-kind_same Num Num h k = refl
-kind_same Num Char h k = cc
-kind_same Num Mixed h k = cc
-kind_same Char Bit h k = cc
-kind_same Char Num h k = cc
-kind_same Char Char h k = refl
-kind_same Char Mixed h k = cc
-kind_same Mixed Bit h k = cc
-kind_same Mixed Num h k = cc
-kind_same Mixed Char h k = cc
-kind_same Mixed Mixed h k = refl
-
 equal_of : (m n : ℕ) → nat_eq m n ≡ true → m ≡ n
 equal_of m n h = grind (arith, nat_tests)
 
 equal_true : (m n : ℕ) → m ≡ n → nat_eq m n ≡ true
 equal_true m n h = grind (arith, nat_tests)
-
-length_same : (x y : Option ℕ) → length_below x y ≡ true → length_below y x ≡ true → x ≡ y
-length_same None None h k = refl
-length_same None (Some n) h k = cc
-length_same (Some m) None h k = cc
-length_same (Some m) (Some n) h k = ap (λ i. Some i) (equal_of m n h)
-
-each_same : (xs ys : List (Option ℕ)) → lengths_below xs ys ≡ true → lengths_below ys xs ≡ true → xs ≡ ys
-each_same [] [] h k = refl
-each_same [] (y ∷ ys) h k = cc
-each_same (x ∷ xs) [] h k = cc
-each_same (x ∷ xs) (y ∷ ys) h k =
-    ap (λ z. z ∷ xs) (length_same x y (left_true (length_below x y) (lengths_below xs ys) h) (left_true (length_below y x) (lengths_below ys xs) k))
-    ∙ ap (λ zs. y ∷ zs) (each_same xs ys (right_true (length_below x y) (lengths_below xs ys) h) (right_true (length_below y x) (lengths_below ys xs) k))
-
-shape_same : (s t : Option (List (Option ℕ))) → shape_below s t ≡ true → shape_below t s ≡ true → s ≡ t
-shape_same None None h k = refl
-shape_same None (Some ys) h k = cc
-shape_same (Some xs) None h k = cc
-shape_same (Some xs) (Some ys) h k = ap (λ zs. Some zs) (each_same xs ys h k)
-
-pub same_below : (f g : Inferred) → below f g ≡ true → below g f ≡ true → f ≡ g
-same_below Unset Unset h k = refl
-same_below Unset (Of b t) h k = cc
-same_below (Of a s) Unset h k = cc
-same_below (Of a s) (Of b t) h k =
-    ap (λ x. Of x s) (kind_same a b (left_true (kind_below a b) (shape_below s t) h) (left_true (kind_below b a) (shape_below t s) k))
-    ∙ ap (λ x. Of b x) (shape_same s t (right_true (kind_below a b) (shape_below s t) h) (right_true (kind_below b a) (shape_below t s) k))
 
 -- ---- The join with what is above
 
@@ -135,14 +90,6 @@ longer (y ∷ xs) x = let h = longer xs x in omega arith
 
 pub grows_push : (xs : List Inferred) (x : Inferred) → Grows xs (xs ++ x ∷ [])
 grows_push xs x = record { longer = longer xs x; same = λ h w. front_get xs (x ∷ []) h w }
-
-pub at_push : (xs : List Inferred) (x : Inferred) → at (xs ++ x ∷ []) (length xs) ≡ x
-at_push [] x = refl
-at_push (y ∷ xs) x = at_push xs x
-
-pub within_push : (xs : List Inferred) (x : Inferred) → length xs < length (xs ++ x ∷ [])
-within_push [] x = omega arith
-within_push (y ∷ xs) x = let h = within_push xs x in omega arith
 
 pub at_index : (xs : List Inferred) (k : ℕ) (x : Inferred) → k < length xs → x ≡ get_or xs k x → at xs k ≡ x
 at_index xs k x w e = ap (λ o. unwrap_or o Unset) (found_at xs k x w e)
@@ -268,7 +215,17 @@ blanks_at p (r ∷ rs) (suc l) k e u = blanks_at p rs l k e u.1
 pub block_blank : (p : List Inferred) (rs : List (List ℕ)) → p ≡ Unset ∷ [] → AreBlank rs → (i : ℕ × ℕ) → at2 (all_spelled p rs) i ≡ Unset
 block_blank p rs e u i = blanks_at p rs i.0 i.1 (ap (λ x. at x 0) e) u
 
-pub ruleset pools = (grows_none, grows_push, at_push, within_push)
+pub added_fact : (xs : List Inferred) (n : ℕ) (f : Inferred) → (x : Inferred) × (slice_get xs n ≡ Some x) × (same f x ≡ true) → at xs n ≡ f
+added_fact xs n f h = ap (λ o. unwrap_or o Unset) h.1 ∙ sym (same_equal f h.0 h.2)
+
+added_either : (b : Bool) (xs : List Inferred) (f : Inferred) → Grows xs (if b then xs else xs ++ f ∷ [])
+added_either true xs f = grows_none xs
+added_either false xs f = grows_push xs f
+
+pub added_grows : (xs ys : List Inferred) (f : Inferred) → ys ≡ insert_key same xs f → Grows xs ys
+added_grows xs ys f e = subst (λ zs. Grows xs zs) (sym e) (added_either (list_any (same f) xs) xs f)
+
+pub ruleset pools = (grows_none, added_grows)
 
 pub ruleset raises = (grows_none, housed_grown, housed_set, row_stayed, row_lifted)
 
@@ -294,3 +251,53 @@ pub width_some : (xs : List (List Inferred)) (p : List Inferred) (rs : List (Lis
 width_some xs p rs l n r e f g k w = ap (λ ys. at2 ys (l, k)) e ∙ ap (λ o. look_or at o k) (map_get (spelled p) rs l r f) ∙ beyond_row p r k (subst (λ m. m ≤ k) g w)
 
 pub ruleset widths = (width_none, width_some)
+
+-- ---- A column
+
+pub column_blank : (xs p : List Inferred) (hs : List ℕ) (n : ℕ) → spelled p hs ≡ xs → p ≡ Unset ∷ [] → hs ≡ replicate n 0 → (k : ℕ) → at xs k ≡ Unset
+column_blank xs p hs n s e f k = ap (λ ys. at ys k) (sym s) ∙ blank_at p hs k (ap (λ x. at x 0) e) (subst (λ x. IsBlank x) (sym f) (blank_numbers n))
+
+pub column_housed : (p : List Inferred) (hs : List ℕ) (n : ℕ) → p ≡ Unset ∷ [] → hs ≡ replicate n 0 → IsHoused (length p) hs
+column_housed p hs n e f = blank_housed hs (length p) (subst (λ x. 0 < length x) (sym e) (omega arith)) (subst (λ x. IsBlank x) (sym f) (blank_numbers n))
+
+pub column_there : (xs p : List Inferred) (hs : List ℕ) (k h : ℕ) (x : Inferred) → spelled p hs ≡ xs → k < length hs → h ≡ get_or hs k h → x ≡ at p h → x ≡ at xs k
+column_there xs p hs k h x s w e f = f ∙ sym (ap (λ o. unwrap_or o Unset) (map_get (at p) hs k h (found_at hs k h w e))) ∙ ap (λ ys. at ys k) s
+
+pub column_beyond : (xs p : List Inferred) (hs : List ℕ) (k : ℕ) → spelled p hs ≡ xs → length hs ≤ k → Unset ≡ at xs k
+column_beyond xs p hs k s w = sym (beyond_row p hs k w) ∙ ap (λ ys. at ys k) s
+
+pub ruleset column_ats = (column_there, column_beyond)
+
+-- ---- What is in use
+
+housed_push : (n : ℕ) (hs : List ℕ) (h : ℕ) → IsHoused n hs → h < n → IsHoused n (hs ++ h ∷ [])
+housed_push n [] h u w = (w, tt)
+housed_push n (x ∷ hs) h u w = (u.0, housed_push n hs h u.1 w)
+
+spelled_push : (p : List Inferred) (hs : List ℕ) (h : ℕ) → spelled p (hs ++ h ∷ []) ≡ spelled p hs ++ at p h ∷ []
+spelled_push p [] h = refl
+spelled_push p (x ∷ hs) h = ap (λ ys. at p x ∷ ys) (spelled_push p hs h)
+
+take_more : (hs : List ℕ) (k h : ℕ) → slice_get hs k ≡ Some h → take (suc k) hs ≡ take k hs ++ h ∷ []
+take_more [] k h e = absurd (none_some h e)
+take_more (x ∷ hs) zero h e = ap (λ y. y ∷ []) (same_some x h e)
+take_more (x ∷ hs) (suc k) h e = ap (λ ys. x ∷ ys) (take_more hs k h e)
+
+next : (k : ℕ) → suc k ≡ k + 1
+next k = omega arith
+
+-- one more number of a pool, in the pool of those in use
+pub used_more : (p q r : List Inferred) (hs out new : List ℕ) (k h n : ℕ) (x : Inferred) → IsHoused (length q) out × (spelled q out ≡ spelled p (take k hs)) → k < length hs → h ≡ get_or hs k h → x ≡ at p h → Grows q r → n < length r → at r n ≡ x → new ≡ out ++ n ∷ [] → IsHoused (length r) new × (spelled r new ≡ spelled p (take (k + 1) hs))
+used_more p q r hs out new k h n x u w e f g b same made = (
+  subst (λ ys. IsHoused (length r) ys) (sym made) (housed_push (length r) out n (housed_grown q r out g u.0) b),
+  ap (spelled r) made
+      ∙ spelled_push r out n
+      ∙ ap (λ ys. ys ++ at r n ∷ []) (spelled_grown q r out g u.0 ∙ u.1)
+      ∙ ap (λ y. spelled p (take k hs) ++ y ∷ []) (same ∙ f)
+      ∙ sym (spelled_push p (take k hs) h)
+      ∙ ap (spelled p) (sym (take_more hs k h (found_at hs k h w e)))
+      ∙ ap (λ m. spelled p (take m hs)) (next k),
+)
+
+pub used_none : (p q : List Inferred) (hs out : List ℕ) → out ≡ [] → IsHoused (length q) out × (spelled q out ≡ spelled p (take 0 hs))
+used_none p q hs out e = subst (λ ys. IsHoused (length q) ys × (spelled q ys ≡ spelled p (take 0 hs))) (sym e) (tt, refl)

@@ -73,21 +73,6 @@ row_rises xs k x f e h s = record {
 pub found_at : {A : Type 0} (xs : List A) (k : ℕ) (x : A) → k < length xs → x ≡ get_or xs k x → slice_get xs k ≡ Some x
 found_at xs k x h e = slice_get-get_or xs k x h ∙ ap (λ y. Some y) (sym e)
 
--- in the code's own shape
-pub row_rose : (xs ys : List Inferred) (k : ℕ) (x f y : Inferred) (b : Bool) → xs ≡ ys → k < length ys → x ≡ get_or ys k x → b ≡ below f x → b ≡ false → y ≡ join x f → IsShort f → RowRises xs (set ys k y) k f true
-row_rose xs ys k x f y b same w e t n j s =
-    subst (λ z. RowRises xs (set ys k z) k f true) (sym j)
-    (subst (λ zs. RowRises zs (set ys k (join x f)) k f true) (sym same) (row_rises ys k x f (found_at ys k x w e) (sym t ∙ n) s))
-
-pub row_stood : (xs ys : List Inferred) (k : ℕ) (x f : Inferred) (b : Bool) → xs ≡ ys → k < length ys → x ≡ get_or ys k x → b ≡ below f x → b ≡ true → RowRises xs xs k f false
-row_stood xs ys k x f b same w e t n = subst (λ zs. RowRises zs zs k f false) (sym same) (row_stays ys k x f (found_at ys k x w e) (sym t ∙ n))
-
-pub blank_push : (xs : List Inferred) → ((k : ℕ) → at xs k ≡ Unset) → (k : ℕ) → at (xs ++ Unset ∷ []) k ≡ Unset
-blank_push [] h zero = refl
-blank_push [] h (suc k) = refl
-blank_push (x ∷ xs) h zero = h zero
-blank_push (x ∷ xs) h (suc k) = blank_push xs (λ j. h (suc j)) k
-
 -- ---- A list of tables
 
 module _ {A I : Type 0} (see : A → I → Inferred) (size : A → ℕ) where

@@ -1,4 +1,5 @@
 pub mod Facts
+pub mod Sameness
 pub mod Rules
 pub mod Orders
 pub mod Seeing

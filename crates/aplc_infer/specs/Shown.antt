@@ -28,6 +28,10 @@ there_or_none (Some x) = x
 abbrev pub fact_at : List (Option Fact) → ℕ → Option Fact
 fact_at xs n = there_or_none (slice_get xs n)
 
+-- the facts that numbers into a pool are
+abbrev pub pooled_facts : List (Option Fact) → List ℕ → List (Option Fact)
+pooled_facts pool hs = map (fact_at pool) hs
+
 -- the facts of the nodes under the least family, under which no refusal stands
 pub record IsInferred (p : Program) (facts : List (Option Fact)) : Type 0 where
   pub family : Family

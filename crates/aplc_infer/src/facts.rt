@@ -5,8 +5,9 @@ ghost use Rattle.std.specs.Prelude.{◌≡◌, map, IfOk};
 ghost use Rattle.std.specs.Option.{option_copied};
 ghost use Rattle.aplc_infer.specs.Shown.{shown, shown_length, fact_at};
 
+use crate::column::Column;
 use crate::fact::{FactKind, Inferred};
-use crate::tables::Column;
+use crate::numbers::Numbers;
 use aplc_lex::List;
 use aplc_syntax::NodeId;
 use std::alloc::{AllocError, Global};
@@ -22,10 +23,11 @@ pub struct Fact {
     pub lengths: List<Option<i64>>,
 }
 
-/// The facts of the nodes of a program.
+/// The facts of the nodes of a program: each of them once, and for each node a number.
 #[derive(Drop)]
 pub struct Facts {
-    facts: Vec<Option<Fact>>,
+    pool: Vec<Option<Fact>>,
+    numbers: Numbers,
 }
 
 impl Model for Facts {
@@ -34,7 +36,9 @@ impl Model for Facts {
 
     ghost Value = { ListOf (Option Fact) };
 
-    ghost view = { λ f. f.facts.items };
+    ghost use Rattle.aplc_infer.specs.Shown.{pooled_facts};
+
+    ghost view = { λ f. pooled_facts f.pool.items f.numbers };
 }
 
 fn shown_length(length: Option<u32>) -> Option<i64>
@@ -79,25 +83,88 @@ fn shown(alloc: Global, fact: &Inferred) -> Result<Option<Fact>, AllocError>
     }
 }
 
+fn copied_lengths(alloc: Global, lengths: &[Option<i64>]) -> Result<List<Option<i64>>, AllocError>
+    ensures { IfOk result (λ v. v ≡ lengths.now) }
+{
+    let items = Vec::from_slice(alloc, lengths)?;
+    Ok(List::from_vec(items))
+}
+
+fn copied(alloc: Global, fact: &Option<Fact>) -> Result<Option<Fact>, AllocError>
+    ensures { IfOk result (λ f. f ≡ fact.now) }
+{
+    match fact {
+        None => Ok(None),
+        Some(fact) => {
+            let lengths = copied_lengths(alloc, fact.lengths.as_slice())?;
+            Ok(Some(Fact {
+                kind: fact.kind,
+                rank: fact.rank,
+                lengths,
+            }))
+        }
+    }
+}
+
+fn all_copied(alloc: Global, facts: &[Option<Fact>]) -> Result<Vec<Option<Fact>>, AllocError>
+    ensures { IfOk result (λ v. v.items ≡ facts.now) }
+{
+    let mut out = Vec::new(alloc);
+    for fact in facts {
+        out.push(copied(alloc, fact)?)?;
+    }
+    Ok(out)
+}
+
+/// Facts as other crates read them.
+fn all_shown(alloc: Global, facts: &[Inferred]) -> Result<Vec<Option<Fact>>, AllocError>
+    ensures { IfOk result (λ v. v.items ≡ map shown facts.now) }
+{
+    let mut out = Vec::with_capacity(alloc, facts.len())?;
+    for fact in facts {
+        out.push(shown(alloc, fact)?)?;
+    }
+    Ok(out)
+}
+
+/// The fact of a number.
+fn pooled(pool: &[Option<Fact>], number: u32) -> Option<&Fact>
+    ensures { option_copied result ≡ fact_at pool.now number }
+{
+    match pool.get(number as usize) {
+        None => None,
+        Some(fact) => fact.as_ref(),
+    }
+}
+
 impl Facts {
     /// The facts of nodes by their numbers.
-    pub fn from_nodes(alloc: Global, nodes: &Column) -> Result<Facts, AllocError>
-        ensures { IfOk result (λ f. f ≡ map shown nodes.now) }
+    #[tactic(auto, using(crate::proofs::PooledFacts::all_shown))]
+    pub fn from_nodes(alloc: Global, nodes: Column) -> Result<Facts, AllocError>
+        ensures { IfOk result (λ f. f ≡ map shown nodes) }
     {
-        let mut facts = Vec::new(alloc);
-        for fact in nodes.as_slice() {
-            facts.push(shown(alloc, fact)?)?;
-        }
-        Ok(Facts { facts })
+        let (facts, numbers) = nodes.into_parts()?;
+        let pool = all_shown(alloc, facts.as_slice())?;
+        Ok(Facts { pool, numbers })
+    }
+
+    /// The same facts once more.
+    pub fn copy(&self, alloc: Global) -> Result<Facts, AllocError>
+        ensures { IfOk result (λ f. f ≡ self.now) }
+    {
+        let pool = all_copied(alloc, self.pool.as_slice())?;
+        let numbers = self.numbers.copy(alloc)?;
+        Ok(Facts { pool, numbers })
     }
 
     /// The fact of a node. `None` is a node that is never evaluated.
+    #[tactic(auto, using(crate::proofs::PooledFacts::looks))]
     pub fn of(&self, node: NodeId) -> Option<&Fact>
         ensures { option_copied result ≡ fact_at self.now node.0 }
     {
-        match self.facts.get(node.0 as usize) {
+        match self.numbers.get(node.0 as usize) {
             None => None,
-            Some(fact) => fact.as_ref(),
+            Some(number) => pooled(self.pool.as_slice(), number),
         }
     }
 }

@@ -37,12 +37,12 @@ fn examine(alloc: Global, bound: &Bound) -> Result<Findings, AllocError>
 
 /// The facts of the nodes, under which no refusal stands.
 #[tactic(auto, using(crate::proofs::Refused::inferred_by))]
-fn show(alloc: Global, bound: &Bound, tables: &Tables) -> Result<Facts, AllocError>
-    requires least { IsLeastOf bound.now (family_of tables.now) }
-    requires fine { IsFirstOf (StandsUnder bound.now (family_of tables.now)) None }
+fn show(alloc: Global, bound: &Bound, tables: Tables) -> Result<Facts, AllocError>
+    requires least { IsLeastOf bound.now (family_of tables) }
+    requires fine { IsFirstOf (StandsUnder bound.now (family_of tables)) None }
     ensures { IfOk result (IsInferred bound.now) }
 {
-    let facts = Facts::from_nodes(alloc, &tables.nodes)?;
+    let facts = Facts::from_nodes(alloc, tables.into_nodes())?;
     Ok(facts)
 }
 
@@ -57,7 +57,7 @@ fn conclude(alloc: Global, bound: &Bound, found: Findings) -> Result<Facts, Stop
 {
     match found.first {
         Some(r) => Err(Stop::Refused(r)),
-        None => match show(alloc, bound, &found.tables) {
+        None => match show(alloc, bound, found.tables) {
             Ok(facts) => Ok(facts),
             Err(_) => Err(Stop::Memory),
         },

@@ -4,11 +4,11 @@
 ghost use Rattle.std.specs.Prelude.{◌≡◌, ◌≤◌, ◌++◌, ◌∷◌, [], ℕ, length, Option, Some, None, OnOk, IfOk, Bool, true, false};
 ghost use Rattle.aplc_infer.specs.declared.fact.Inferred.TheVariants.{Unset};
 ghost use Rattle.aplc_infer.specs.declared.cell.Cell.TheVariants as cell;
-ghost use Rattle.aplc_infer.specs.Seeing.{at};
 ghost use Rattle.aplc_infer.specs.Rising.{at2, at3, RowRises, BlocksRise};
 
 use crate::block::Block;
 use crate::cell::Cell;
+use crate::column::Column;
 use crate::fact::Inferred;
 use aplc_syntax::NameId;
 use std::alloc::{AllocError, Global};
@@ -20,68 +20,6 @@ use std::marker::Model;
 pub enum Spot {
     Here(Cell),
     Hub(usize, usize),
-}
-
-/// Facts by their numbers; beyond the last nothing is set.
-#[derive(Drop)]
-pub struct Column {
-    facts: Vec<Inferred>,
-}
-
-impl Model for Column {
-    ghost use Rattle.std.specs.Prelude.{List};
-    ghost use Rattle.aplc_infer.specs.declared.fact.Inferred.{Inferred};
-
-    ghost Value = { List Inferred };
-
-    ghost view = { λ r. r.facts.items };
-}
-
-impl Column {
-    /// So many facts that are not set.
-    #[tactic(auto, using(crate::proofs::Raised::blank_push))]
-    pub fn blank(alloc: Global, count: usize) -> Result<Column, AllocError>
-        ensures { IfOk result (λ r. (k : ℕ) → at r k ≡ Unset) }
-    {
-        let mut facts = Vec::new(alloc);
-        for _ in 0..count {
-            facts.push(Inferred::Unset)?;
-        }
-        Ok(Column { facts })
-    }
-
-    pub fn at(&self, k: usize) -> Inferred
-        ensures { result ≡ at self.now k }
-    {
-        match self.facts.get(k) {
-            None => Inferred::Unset,
-            Some(fact) => fact.copy(),
-        }
-    }
-
-    pub fn as_slice(&self) -> &[Inferred]
-        ensures { result.now ≡ self.now }
-    {
-        self.facts.as_slice()
-    }
-
-    /// Raises a fact so that it is above this one, and says whether it rose.
-    #[tactic(auto, using(crate::proofs::Raised::row_stood))]
-    pub fn raise(&mut self, k: usize, fact: &Inferred) -> Result<bool, AllocError>
-        ensures { IfOk result (RowRises self.old self.new k fact.now) }
-    {
-        if k >= self.facts.len() {
-            return Err(AllocError);
-        }
-        let old = &self.facts[k];
-        if fact.is_below(old) {
-            return Ok(false);
-        }
-        let joined = old.join(fact);
-        let _short = fact.is_short();
-        self.facts[k] = joined;
-        Ok(true)
-    }
 }
 
 /// Blocks by their numbers.
@@ -218,6 +156,13 @@ impl Tables {
             rows,
             risen: Vec::new(alloc),
         })
+    }
+
+    /// The facts of the nodes; nothing else is kept.
+    pub fn into_nodes(self) -> Column
+        ensures { result ≡ self.nodes }
+    {
+        self.nodes
     }
 
     /// The fact of a global name.

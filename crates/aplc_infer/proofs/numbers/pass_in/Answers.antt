@@ -4,12 +4,12 @@ use Rattle.aplc_infer.specs.Seeing.{at}
 use Rattle.aplc_infer.specs.Pools.{spelled}
 use Rattle.aplc_infer.specs.Rising.{RowRises}
 use Rattle.aplc_infer.proofs.Pooled.{row_lifted}
-use Rattle.aplc_infer.proofs.block.pass_in.Goals as goal
+use Rattle.aplc_infer.proofs.numbers.pass_in.Goals as goal
 
 pub returns-clause-rises : goal.returns-clause-rises
 returns-clause-rises c =
-    let p = c.args.pool.now.items in
-    let q = c.joined.new.pool.items in
+    let p = c.args.pool.now in
+    let q = c.joined.new.self in
     let hs = c.args.row.now in
     let f = at p c.args.from in
     let test : c.is_covered.result ≡ below f (at p c.at-number.result) = search rules in

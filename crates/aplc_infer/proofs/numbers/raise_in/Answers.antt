@@ -4,12 +4,12 @@ use Rattle.aplc_infer.specs.Seeing.{at}
 use Rattle.aplc_infer.specs.Pools.{spelled}
 use Rattle.aplc_infer.specs.Rising.{RowRises}
 use Rattle.aplc_infer.proofs.Pooled.{row_lifted}
-use Rattle.aplc_infer.proofs.block.raise_in.Goals as goal
+use Rattle.aplc_infer.proofs.numbers.raise_in.Goals as goal
 
 pub returns-clause-rises : goal.returns-clause-rises
 returns-clause-rises c =
-    let p = c.args.pool.now.items in
-    let q = c.house.new.pool.items in
+    let p = c.args.pool.now in
+    let q = c.add.new.self in
     let hs = c.args.row.now in
     let test : c.lies_below.result ≡ below c.args.fact.now (at p c.at-number.result) = search rules in
     let made : at q c.in_ok-new.new ≡ join (at p c.at-number.result) c.args.fact.now = search rules in

@@ -1,6 +1,6 @@
 -- What the code of an element in a variable does, and how code yields a number.
-use Rattle.std.proofs.Common.{◌≡◌, ℕ, ◌+◌, ◌<◌, ◌≤◌, List, [], ◌∷◌, ◌++◌, refl, sym, ap, ◌∙◌, subst, arith, ℤ, Bool, true, false, cond}
-use Rattle.std.specs.Prelude.{Option, Some, None, Ok, Err, pos, nat_lt}
+use Rattle.std.proofs.Common.{◌≡◌, ℕ, ◌+◌, ◌≤◌, List, [], ◌∷◌, ◌++◌, refl, sym, ap, ◌∙◌, subst, arith, ℤ, Bool, true, false, cond}
+use Rattle.std.specs.Prelude.{Option, Some, None, Ok, pos}
 use Rattle.aplc_scalar.specs.declared.kind.FaultKind.{FaultKind}
 use Rattle.aplc_scalar.specs.Scalar.{Given, in_range, truth}
 use Rattle.aplc_cprof.specs.declared.syntax.Int.{Int}
@@ -10,16 +10,16 @@ use Rattle.aplc_cprof.specs.declared.syntax.CExpr.TheVariants as expr
 use Rattle.aplc_cprof.specs.declared.syntax.CStmt.{CStmt}
 use Rattle.aplc_cprof.specs.declared.syntax.CStmt.TheVariants as stmt
 use Rattle.aplc_cprof.specs.Blocks.{Blocks}
-use Rattle.aplc_cprof.specs.WellFormed.{Scope, is_int, is_expr, are_stmts}
+use Rattle.aplc_cprof.specs.WellFormed.{Scope, is_int}
 use Rattle.aplc_cprof.specs.Machine.{State, Code, Value, Is, Bad, read_int, or_unset, value, settled}
-use Rattle.aplc_cprof.specs.Frames.{IsFresh, AreGiven, Stays, Hold}
-use Rattle.aplc_cprof.specs.Emitted.{Grown, IsWithin, AreInts}
+use Rattle.aplc_cprof.specs.Frames.{IsFresh, AreGiven, Stays}
+use Rattle.aplc_cprof.specs.Emitted.{IsWithin}
 use Rattle.aplc_cprof.proofs.Values.{value_Var}
 use Rattle.aplc_cprof.proofs.Paths.{other_part, Does, does_weaken, does_if, does_else}
 use Rattle.aplc_cprof.proofs.Frames.{put_at, stays_none, stays_settled, stays_set}
 use Rattle.aplc_cprof.proofs.Counting.{does_set}
 use Rattle.aplc_cprof.proofs.Emitted.{is_below, fresh_declared, var_formed, set_formed, one_stmt}
-use Rattle.aplc_collect.specs.Elements.{Test, Computed, Failed, Yields, Emits, scope_of, number_of, scalar_test, one_step}
+use Rattle.aplc_collect.specs.Elements.{Computed, Failed, Yields, Emits, scope_of, number_of, scalar_test, one_step}
 use Rattle.aplc_collect.specs.ElementLaws.{some_is, not_none}
 
 -- ---- Code that yields a number

@@ -1,5 +1,5 @@
 -- Why a test looks only at its names, and gives only numbers of the machine's range.
-use Rattle.std.proofs.Common.{◌≡◌, ℕ, List, refl, ap, subst, arith, ℤ, Bool, true, false, cond}
+use Rattle.std.proofs.Common.{◌≡◌, refl, ap, subst, arith, ℤ, Bool, true, false, cond}
 use Rattle.std.specs.Prelude.{Option, Some, None, Ok, Err}
 use Rattle.aplc_scalar.specs.Scalar.{Given, IsInRange, in_range}
 use Rattle.aplc_cprof.specs.declared.syntax.Int.{Int}
@@ -8,7 +8,7 @@ use Rattle.aplc_cprof.specs.declared.syntax.Buf.{Buf}
 use Rattle.aplc_cprof.specs.declared.syntax.Buf.TheVariants as buf
 use Rattle.aplc_cprof.specs.Machine.{State, Value, Is, Bad, read_int, or_unset}
 use Rattle.aplc_cprof.specs.Frames.{contents, SameSeen}
-use Rattle.aplc_collect.specs.Elements.{Test, ReadsWithin, GivesInRange, scope_of, scope_of_buf, number_of, scalar_test, one_step}
+use Rattle.aplc_collect.specs.Elements.{ReadsWithin, GivesInRange, scope_of, scope_of_buf, number_of, scalar_test, one_step}
 
 -- ---- Results
 

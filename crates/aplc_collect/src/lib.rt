@@ -2,6 +2,12 @@
 //! It must not know where in a program it stands, nor how arrays are held.
 #![tactic(auto)]
 
+mod blocks;
+mod dyadic;
 mod element;
+mod guards;
+mod monadic;
 
+pub use dyadic::dyad_code;
 pub use element::{ElementCode, ScalarElement};
+pub use monadic::mono_code;

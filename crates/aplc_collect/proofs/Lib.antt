@@ -5,3 +5,4 @@ mod DyadYields
 mod MonoYields
 mod ScalarFormed
 mod ScalarBuilt
+mod Fusing

@@ -5,9 +5,11 @@
 mod blocks;
 mod dyadic;
 mod element;
+mod fused;
 mod guards;
 mod monadic;
 
 pub use dyadic::dyad_code;
 pub use element::{ElementCode, ScalarElement};
+pub use fused::{Dyad, Mono};
 pub use monadic::mono_code;

@@ -1,5 +1,5 @@
 -- Eager order has each node of a statement as often as the statement has it.
-use Rattle.std.proofs.Common.{◌≡◌, ℕ, List, [], ◌∷◌, ◌++◌, Bool, true, false, nat_eq, arith, refl, sym}
+use Rattle.std.proofs.Common.{◌≡◌, ℕ, List, [], ◌∷◌, ◌++◌, Bool, true, false, nat_eq, arith, refl}
 use Rattle.std.specs.List.{IsDistinct}
 use Rattle.std.specs.List.Sorted.{IsPermutation}
 use Rattle.std.proofs.lemmas.List.Sorted.{IsPermutation-refl, IsPermutation-sym, IsPermutation-trans, IsPermutation-cons, IsPermutation-append, IsPermutation-append_comm, IsPermutation-to_front}
@@ -53,11 +53,11 @@ each_in_order (branch p x) = all_in_order x
 flips : (x y : ℕ) → nat_eq x y ≡ nat_eq y x
 flips x y = by (nat_eq x y) (nat_eq y x) refl refl
   where
-  by : (b c : Bool) → nat_eq x y ≡ b → nat_eq y x ≡ c → b ≡ c
-  by true true g h = refl
-  by false false g h = refl
-  by true false g h = absurd (grind (nat_tests, arith))
-  by false true g h = absurd (grind (nat_tests, arith))
+    by : (b c : Bool) → nat_eq x y ≡ b → nat_eq y x ≡ c → b ≡ c
+    by true true g h = refl
+    by false false g h = refl
+    by true false g h = absurd (grind (nat_tests, arith))
+    by false true g h = absurd (grind (nat_tests, arith))
 
 pub each_once : (x : Action) → IsNumbered x → IsDistinct nat_eq (order_of x)
 each_once x h = IsDistinct-IsPermutation nat_eq flips (action_ids x) (order_of x) (each_in_order x) h

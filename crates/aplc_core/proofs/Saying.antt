@@ -1,5 +1,5 @@
 -- The steps of a statement say it: pieces of a line, put together from right to left.
-use Rattle.std.proofs.Common.{◌≡◌, ℕ, ◌+◌, ◌≤◌, ◌<◌, List, [], ◌∷◌, ◌++◌, Option, Some, None, refl, sym, ap, ap₂, ◌∙◌, subst, arith, Bool, true, false, inl, inr, ◌⊎◌, append_assoc}
+use Rattle.std.proofs.Common.{◌≡◌, ℕ, ◌+◌, ◌≤◌, ◌<◌, List, [], ◌∷◌, ◌++◌, Some, None, refl, sym, ap, ap₂, ◌∙◌, subst, arith, Bool, true, false, inl, inr, ◌⊎◌, append_assoc}
 use Rattle.std.specs.Prelude.{nat_eq, if◌then◌else◌}
 use Rattle.std.proofs.lemmas.List.{append-nil}
 use Rattle.std.proofs.lemmas.Bool.Decides.{nat_tests}
@@ -7,8 +7,8 @@ use Rattle.aplc_syntax.specs.PlainTrees.{Tree, Trees, Argument, absent, given, i
 use Rattle.aplc_syntax.specs.PlainTrees as t
 use Rattle.aplc_core.specs.PlainSteps.{Term, Literal, Read, Slot, Mono, Dyad, Index, Terms, Effect, Keep}
 use Rattle.aplc_core.specs.PlainSteps as s
-use Rattle.aplc_core.specs.Structure.{Done, IsAmong, first, behind, Means, means_slot, means_numbers, means_text, means_name, means_assigned, means_mono, means_dyad, means_index, MeansList, means_no_more, means_left_out, means_and, IsIn, set_in, did, Does, keeps, DoesAll, no_steps, and_steps, in_order, list_in_order}
-use Rattle.aplc_core.specs.Lowering.{Cut, CutList, Kept, kept_term, kept, from_slot, and_kept, and_left_out, kept_terms, kept_all, before, all_before}
+use Rattle.aplc_core.specs.Structure.{Done, IsAmong, behind, Means, means_slot, means_numbers, means_text, means_name, means_assigned, means_mono, means_dyad, means_index, MeansList, means_no_more, means_left_out, means_and, did, Does, keeps, DoesAll, no_steps, and_steps, in_order, list_in_order}
+use Rattle.aplc_core.specs.Lowering.{Cut, CutList, Kept, kept_term, kept, from_slot, and_kept, kept_terms, kept_all}
 
 -- ---- Steps in a row
 
@@ -187,15 +187,15 @@ keep_it k d x xs b n v p = record {
   grows = omega arith;
 }
   where
-  node_of : {e : Done} {u : Term} {y : Tree} {js : List ℕ} → Means e u y js → s.id_of u ≡ id_of y
-  node_of means_numbers = refl
-  node_of means_text = refl
-  node_of means_name = refl
-  node_of (means_assigned h) = refl
-  node_of (means_slot h) = refl
-  node_of (means_mono h) = refl
-  node_of (means_dyad h g) = refl
-  node_of (means_index h g) = refl
+    node_of : {e : Done} {u : Term} {y : Tree} {js : List ℕ} → Means e u y js → s.id_of u ≡ id_of y
+    node_of means_numbers = refl
+    node_of means_text = refl
+    node_of means_name = refl
+    node_of (means_assigned h) = refl
+    node_of (means_slot h) = refl
+    node_of (means_mono h) = refl
+    node_of (means_dyad h g) = refl
+    node_of (means_index h g) = refl
 
 kept_at : (k : ℕ) (d : Done) (x : Tree) (xs : List Effect) (b : Term) (n : ℕ) (v : List ℕ) (p : Made k d xs n (Meaning x b) v)
     → InSlot k n p.after x b p.order → ComesKept k n d p.after x (kept_term xs b n) v
@@ -277,9 +277,16 @@ keep_place : {k n : ℕ} {d a : Done} {ys : Trees} {y : Tree} {b : Term} (em js 
     → ((e : Done) → Stays n a e → Means e b y ks) → InSlot k n a y b ks → ComesAll k n d a (t.and_tree y ys) (and_kept (kept_term c.steps b c.next) c.terms) (em ++ (js ++ ks))
 keep_place {k = k} {d = d} {y = y} {b = b} em js ks c l r m i =
     placed em js ks c (kept_term c.steps b c.next) r (kept_at k d y c.steps b c.next ((em ++ js) ++ ks) (record {
-      after = r.after; emitted = em ++ js; order = ks; does = r.does; stays = r.stays;
-      means = λ e h. m e (stays_then r.grows r.later h); all = refl; grows = omega (arith, l, r.grows) })
-      (in_slot_later y ks b (omega arith) r.grows r.later i))
+      after = r.after;
+      emitted = em ++ js;
+      order = ks;
+      does = r.does;
+      stays = r.stays;
+      means = λ e h. m e (stays_then r.grows r.later h);
+      all = refl;
+      grows = omega (arith, l, r.grows);
+    })
+    (in_slot_later y ks b (omega arith) r.grows r.later i))
 
 pub keep_parts : {k n : ℕ} {d a : Done} {xs : List Effect} (em : List ℕ) {bs : Terms} {ys : Trees} {js : List ℕ} → DoesAll d xs em a → Stays k d a → k ≤ n
     → Parts k n a bs ys js → ComesAll k n d a ys (kept_terms xs bs n) (em ++ js)
@@ -304,5 +311,5 @@ made_all v l p = record {
 pub comes_all : {k : ℕ} {d : Done} {ys : Trees} {c : CutList} → ComesList k d ys c → (q : ComesList k d ys (kept_all c)) × (q.made.order ≡ [])
 comes_all {k = k} {d = d} {ys = ys} {c = c} p = all_of (keep_parts p.made.emitted p.made.does p.made.stays p.made.grows p.parts)
   where
-  all_of : ComesAll k c.next d p.made.after ys (kept_all c) (p.made.emitted ++ p.made.order) → (q : ComesList k d ys (kept_all c)) × (q.made.order ≡ [])
-  all_of q = let r = subst (λ v. ComesAll k c.next d p.made.after ys (kept_all c) v) p.made.all q in (record { made = made_all (list_in_order ys) p.made.grows r; parts = r.parts }, refl)
+    all_of : ComesAll k c.next d p.made.after ys (kept_all c) (p.made.emitted ++ p.made.order) → (q : ComesList k d ys (kept_all c)) × (q.made.order ≡ [])
+    all_of q = let r = subst (λ v. ComesAll k c.next d p.made.after ys (kept_all c) v) p.made.all q in (record { made = made_all (list_in_order ys) p.made.grows r; parts = r.parts }, refl)

@@ -8,8 +8,8 @@ use Rattle.aplc_names.specs.PlainPrograms.{Action, nothing, quiet, perform, disp
 use Rattle.aplc_core.specs.PlainSteps.{Term, Terms, Effect, Keep, Store, StoreAt, Call, Show, Branch}
 use Rattle.aplc_core.specs.PlainSteps as s
 use Rattle.aplc_core.specs.Structure.{Done, nothing_done, first, Means, means_numbers, means_text, means_name, means_assigned, means_mono, means_dyad, means_index, MeansList, means_no_more, means_left_out, means_and, IsIn, is_absent, is_given, did, slot_of, Does, keeps, stores, stores_at, shows, calls, reads_text, reads_nums, DoesAll, no_steps, in_order, list_in_order, argument_in_order, order_of, Says, says_nothing, says_quiet, says_perform, says_display, says_branch}
-use Rattle.aplc_core.specs.Lowering.{Cut, CutList, CutArgument, kept, from_slot, before, all_before, kept_all, and_left_out, cut_mono, cut_dyad, cut_index, cut_more, cut_assign, cut_show, cut_assign_at, cut_call, call_steps, argument_kept, changed_quietly, cut, cut_list, cut_argument, lowered}
-use Rattle.aplc_core.proofs.Saying.{does_then, does_one, Stays, stays_same, stays_then, stays_set, stays_none, slot_set, Made, Both, both, made_on, made_as, Meaning, MeaningList, Comes, ComesList, IsSlotOf, InSlot, in_slot_later, Parts, part_none, part_left, part_and, parts_later, kept_comes, slot_means, made_kept, from_kept, comes_all}
+use Rattle.aplc_core.specs.Lowering.{Cut, CutList, CutArgument, kept, before, all_before, and_left_out, cut_mono, cut_dyad, cut_index, cut_more, cut_assign, cut_show, cut_assign_at, cut_call, call_steps, argument_kept, changed_quietly, cut, cut_list, cut_argument, lowered}
+use Rattle.aplc_core.proofs.Saying.{does_then, does_one, Stays, stays_same, stays_then, stays_set, stays_none, slot_set, Both, both, made_on, made_as, Meaning, MeaningList, Comes, ComesList, InSlot, in_slot_later, part_none, part_left, part_and, parts_later, kept_comes, slot_means, made_kept, from_kept, comes_all}
 
 -- ---- One after another
 
@@ -42,8 +42,15 @@ comes_slot : {k : ℕ} {d : Done} {xs : List Effect} (a : Done) (x : Tree) (j n 
     → Comes k d x (record { steps = xs; term = s.Slot (t.id_of x) j; next = n })
 comes_slot a x j n r h l b = record {
   made = record {
-    after = did (Some j) x a; emitted = in_order x; order = []; does = r; stays = h;
-    means = λ e g. slot_means refl (g.slots j b ∙ slot_set j x a); all = append-nil (in_order x); grows = omega (arith, l, b) };
+    after = did (Some j) x a;
+    emitted = in_order x;
+    order = [];
+    does = r;
+    stays = h;
+    means = λ e g. slot_means refl (g.slots j b ∙ slot_set j x a);
+    all = append-nil (in_order x);
+    grows = omega (arith, l, b);
+  };
   slot = record { number = refl; none = refl; there = slot_set j x a; above = l; below = b };
 }
 

@@ -26,7 +26,7 @@ mod Statements
 mod StepExamples
 mod Structured
 mod Tells
-mod TermForms
+pub mod TermForms
 mod Turned
 mod Walked
 mod Weights

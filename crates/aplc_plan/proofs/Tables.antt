@@ -1,6 +1,6 @@
 -- Tables of nodes by their numbers.
-use Rattle.std.proofs.Common.{◌≡◌, ◌∙◌, ap, sym, refl, ℕ, zero, suc, ◌+◌, ◌<◌, List, [], ◌∷◌, ◌++◌, length, arith, Bool, true, false, slice_set, nat_eq}
-use Rattle.std.specs.Prelude.{Option, Some, None, slice_get, unwrap_or, ◌||◌, ◌&&◌}
+use Rattle.std.proofs.Common.{◌≡◌, ◌∙◌, ap, sym, refl, ℕ, zero, suc, ◌<◌, List, [], ◌∷◌, ◌++◌, length, arith, Bool, true, false, slice_set, nat_eq}
+use Rattle.std.specs.Prelude.{◌||◌}
 use Rattle.std.proofs.lemmas.Bool.Decides.{nat_tests}
 use Rattle.aplc_plan.specs.Held.{held_in}
 

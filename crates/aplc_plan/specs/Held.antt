@@ -1,5 +1,5 @@
 -- Which nodes are held: those whose whole value is in memory before a node above them is computed.
-use Rattle.std.specs.Prelude.{ℕ, ◌+◌, List, [], ◌∷◌, ◌++◌, Option, Some, None, Bool, true, false, ◌&&◌, nat_lt, slice_get, unwrap_or}
+use Rattle.std.specs.Prelude.{ℕ, List, [], ◌∷◌, ◌++◌, Option, Some, None, Bool, false, ◌&&◌, nat_lt, slice_get, unwrap_or}
 use Rattle.aplc_names.specs.States.{is_among}
 use Rattle.aplc_infer.specs.declared.facts.Fact.{Fact}
 use Rattle.aplc_infer.specs.Shown.{fact_at}

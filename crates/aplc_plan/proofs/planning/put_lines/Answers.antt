@@ -1,5 +1,5 @@
 use Rattle.std.proofs.Common.{refl, ◌∙◌}
-use Rattle.aplc_plan.specs.Held.{line_inner, function_inner}
+use Rattle.aplc_plan.specs.Held.{line_inner}
 use Rattle.aplc_plan.specs.Walked.{function_steps}
 use Rattle.aplc_plan.proofs.Rests.{step_over, line_is}
 use Rattle.aplc_plan.proofs.planning.put_lines.Goals as goal

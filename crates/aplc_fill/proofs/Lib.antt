@@ -1,0 +1,5 @@
+pub mod Lists
+pub mod RowMajor
+pub mod Nests
+pub mod Fillings
+pub mod Builds

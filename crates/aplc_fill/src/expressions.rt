@@ -4,7 +4,7 @@
 ghost use Rattle.std.specs.Prelude.{◌≡◌, IfOk};
 ghost use Rattle.aplc_fill.specs.Nests.{some_element};
 
-use aplc_cprof::{binary, CExpr, Int, Op};
+use aplc_cprof::{CExpr, Int, Op, binary};
 use std::alloc::{AllocError, Global};
 
 /// Whether none of the variables holds 0.
@@ -13,7 +13,12 @@ pub fn some_element(alloc: Global, lengths: &[Int]) -> Result<CExpr, AllocError>
 {
     let mut all = CExpr::Lit(1);
     for index in (0..lengths.len()).rev() {
-        let first = binary(alloc, Op::Greater, CExpr::Var(lengths[index]), CExpr::Lit(0))?;
+        let first = binary(
+            alloc,
+            Op::Greater,
+            CExpr::Var(lengths[index]),
+            CExpr::Lit(0),
+        )?;
         all = binary(alloc, Op::And, first, all)?;
     }
     Ok(all)

@@ -9,7 +9,7 @@ ghost use Rattle.aplc_fill.specs.Nests.{FillsNest};
 
 use crate::expressions::some_element;
 use aplc_collect::ElementCode;
-use aplc_cprof::{plus_one, Buf, Builder, CExpr, CStmt, Int};
+use aplc_cprof::{Buf, Builder, CExpr, CStmt, Int, plus_one};
 use sqlite_items::Items;
 use std::alloc::{AllocError, Global};
 

@@ -1,0 +1,3 @@
+pub mod Steppers
+pub mod StepperLaws
+pub mod Wholes

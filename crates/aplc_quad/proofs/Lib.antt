@@ -1,0 +1,9 @@
+pub mod Numbers
+pub mod Pieces
+pub mod Joins
+pub mod Tables
+pub mod Lines
+pub mod Nests
+pub mod Shown
+pub mod Widths
+pub mod Whole

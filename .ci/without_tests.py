@@ -1,10 +1,11 @@
 #!/usr/bin/env python3
-"""Removes from a copy of the repository what is compiled for tests alone, so that it is not proved before a first use.
+"""Removes from a copy of the repository what the program does not need, so that it is not proved before a first use: what
+is compiled for tests alone, and the crates that the program does not stand on.
 
 usage: without_tests.py COPY
 
 What stands behind a line `#[cfg(test)]` goes, to its `;` or to the closing brace at the start of a line, and with a module
-its file and its proofs. A crate whose name ends in `_tests` goes with its line of crates.txt. All else stays byte for byte.
+its file and its proofs. A crate that `aplc` does not stand on goes with its line of crates.txt. All else stays byte for byte.
 """
 
 import pathlib
@@ -13,7 +14,6 @@ import shutil
 import sys
 
 TESTS = re.compile(r"\n*^#\[cfg\(test\)\]\n(?:mod (\w+)(?:;$| \{\n(?:.*\n)*?\}$))(?=\n)", re.MULTILINE)
-CRATE_OF_TESTS = re.compile(r"^\w+_tests\b.*\n", re.MULTILINE)
 
 
 def clean(file):
@@ -31,15 +31,30 @@ def clean(file):
         shutil.rmtree(source.parent / "proofs" / name, ignore_errors=True)
 
 
-def drop_crates_of_tests(copy):
+def needed(lines, crate):
+    """A crate with all that it stands on."""
+    below = {name: words.split() for name, words in (line.split(":", 1) for line in lines)}
+    found, left = set(), [crate]
+    while left:
+        name = left.pop()
+        if name in below and name not in found:
+            found.add(name)
+            left += below[name]
+    return found
+
+
+def drop_crates(copy):
     crates = copy / "crates.txt"
-    crates.write_text(CRATE_OF_TESTS.sub("", crates.read_text(encoding="utf-8")), encoding="utf-8")
-    for folder in copy.glob("crates/*_tests"):
-        shutil.rmtree(folder)
+    lines = [line for line in crates.read_text(encoding="utf-8").splitlines() if line.strip()]
+    names = needed(lines, "aplc")
+    crates.write_text("".join(f"{line}\n" for line in lines if line.split(":")[0] in names), encoding="utf-8")
+    for folder in (copy / "crates").iterdir():
+        if folder.name not in names:
+            shutil.rmtree(folder)
 
 
 copy = pathlib.Path(sys.argv[1])
-drop_crates_of_tests(copy)
+drop_crates(copy)
 for file in sorted(copy.glob("crates/*/src/**/*.rt")):
     if file.exists():
         clean(file)

@@ -1,10 +1,55 @@
-mod Applied
-mod Bools
-mod Evaluation
-mod Examples
-mod Formed
-mod Naming
-mod Ranges
-mod Simulation
+pub mod Behaving
+pub mod Bodies
+pub mod Branching
+pub mod Calling
+pub mod Calls
+pub mod Checks
+pub mod Computing
+pub mod Entered
+pub mod Entries
+pub mod FormedPrograms
+pub mod FormedSteps
+pub mod FormedTrees
+pub mod Frames
+pub mod Functions
+pub mod Heads
+pub mod Induction
+pub mod Knowing
+pub mod Landing
+pub mod LayoutExamples
+pub mod Leaving
+pub mod Lines
+pub mod MadeCounts
+pub mod MadeFits
+pub mod MadeLaid
+pub mod MadeLists
+pub mod MadeServes
+pub mod NamesRead
+pub mod Operands
+pub mod Outcomes
+pub mod Places
+pub mod Programs
+pub mod Reaching
+pub mod Relation
+pub mod SoundCalls
+pub mod SoundCosts
+pub mod SoundCuts
+pub mod SoundNumbers
+pub mod SoundPrograms
+pub mod SoundScopes
+pub mod SoundTitles
+pub mod SoundTrees
+pub mod Starting
+pub mod Stepping
+pub mod Steps
+pub mod StepsCalls
+pub mod StepsNames
+pub mod StepsPasses
+pub mod StepsResults
+pub mod StepsShows
+pub mod StepsSlots
+pub mod StepsStores
 pub mod Trees
-mod Whole
+pub mod TreesReads
+pub mod Values
+pub mod Writes

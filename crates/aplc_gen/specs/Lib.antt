@@ -1,3 +1,9 @@
 pub mod Shown
+pub mod Built
+pub mod Unbuilt
+pub mod Sound
+pub mod Layouts
 pub mod Emitted
-pub mod Frames
+pub mod Laid
+pub mod Made
+pub mod Writing

@@ -6,6 +6,7 @@ use Rattle.aplc_cprof.specs.Machine as machine
 use Rattle.aplc_names.specs.PlainPrograms.{PlainProgram}
 use Rattle.aplc_names.specs.States.{Place, Places, Marking}
 use Rattle.aplc_names.specs.Runs.{Run, Ended, Faulted, Going, eager}
+use Rattle.aplc_core.specs.CoreRuns.{PlainCore, core}
 
 -- a place of the source as one of the machine
 abbrev pub place_shown : Place → machine.Place
@@ -22,3 +23,7 @@ run_shown (Going o marks) = standing.Going o (map place_shown marks)
 -- what a program shows on an input, with so many lines started
 abbrev pub source_behaviour : PlainProgram → Marking → List ℕ → ℕ → Standing
 source_behaviour p m input n = run_shown (eager p m input n)
+
+-- what a lowered program shows
+abbrev pub core_behaviour : PlainCore → Marking → List ℕ → ℕ → Standing
+core_behaviour p m input n = run_shown (core p m input n)

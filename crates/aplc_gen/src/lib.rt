@@ -1,10 +1,7 @@
-//! The generator: the C program of a program of trees.
-//! It must not know how a source is read, nor how a C program is printed.
+//! The C program of a lowered program.
+//! It must not know how a program is read, nor how a C program is printed.
 #![tactic(auto)]
 
-mod frame;
-mod generating;
-mod operand;
-mod sums;
+mod unbuilt;
 
-pub use generating::generate;
+pub use unbuilt::first_unbuilt;

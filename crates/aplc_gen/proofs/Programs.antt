@@ -1,0 +1,139 @@
+-- Whole programs: the C program behaves as the core run does.
+use Rattle.std.proofs.Common.{◌≡◌, ℕ, zero, suc, ◌<◌, ◌≤◌, List, [], ◌∷◌, ◌⊎◌, inl, inr, refl, sym, ap, ◌∙◌, subst, arith, Bool, true, false, cond, length}
+use Rattle.std.specs.Prelude.{Option, Some, None, ◌&&◌, map, nat_eq, nat_le, slice_get, unwrap_or, option_and_then}
+use Rattle.std.proofs.lemmas.Bool.Decides.{nat_tests, eqb_tells}
+use Rattle.aplc_cprof.specs.Machine.{Code, code_of}
+use Rattle.aplc_cprof.specs.Behaviour.{IsStuck}
+use Rattle.aplc_cprof.proofs.Functions.{body_of}
+use Rattle.aplc_names.specs.States.{Marking, is_among}
+use Rattle.aplc_names.specs.Runs.{Run, place_of, initial, run_of}
+use Rattle.aplc_names.specs.Runs as runs
+use Rattle.aplc_core.specs.CoreRuns.{CoreRoutine, PlainCore, no_core, main_core}
+use Rattle.aplc_gen.specs.Shown.{run_shown}
+use Rattle.aplc_gen.specs.Sound.{has_own_names, are_lines, is_routine, are_routines, begins, is_sound}
+use Rattle.aplc_gen.specs.Layouts.{Layout, Site, place_in, function_place, routine_at, for_calls}
+use Rattle.aplc_cprof.specs.WellFormed.{is_name as is_text_name}
+use Rattle.aplc_gen.specs.Emitted.{site_at, called_code, program_code}
+use Rattle.aplc_gen.specs.Laid.{is_laid_site, are_laid_sites, lines_fall, IsShallow, IsLaid}
+use Rattle.aplc_gen.proofs.Frames.{and_left, and_right}
+use Rattle.aplc_gen.proofs.Landing.{eq_of, or_cases}
+use Rattle.aplc_gen.proofs.Knowing.{site_laid}
+use Rattle.aplc_gen.proofs.Lines.{Sits}
+use Rattle.aplc_gen.proofs.Calls.{Callable}
+
+-- ---- Functions by their numbers
+
+get_map : {A B : Type 0} (h : A → B) (xs : List A) (k : ℕ) (a : A) → slice_get xs k ≡ Some a → slice_get (map h xs) k ≡ Some (h a)
+get_map h [] k a e = absurd (cc)
+get_map h (x ∷ xs) zero a e = let is : x ≡ a = cc in ap (λ z. Some (h z)) is
+get_map h (x ∷ xs) (suc k) a e = get_map h xs k a e
+
+place_get : (xs : List ℕ) (j : ℕ) → is_among j xs ≡ true → slice_get xs (place_in xs j) ≡ Some j
+place_get [] j h = absurd (cc)
+place_get (x ∷ xs) j h = by (place_get xs j) (eqb_tells x j) (or_cases (nat_eq j x) (is_among j xs) h)
+  where
+    by : (is_among j xs ≡ true → slice_get xs (place_in xs j) ≡ Some j) → ((nat_eq x j ≡ true) × (x ≡ j)) ⊎ ((nat_eq x j ≡ false) × (x ≡ j → ⊥)) → (nat_eq j x ≡ true) ⊎ (is_among j xs ≡ true) → slice_get (x ∷ xs) (place_in (x ∷ xs) j) ≡ Some j
+    by ih (inl e) o = ap (λ b. slice_get (x ∷ xs) (cond b 0 (suc (place_in xs j)))) e.0 ∙ ap Some e.1
+    by ih (inr ne) (inl e) = absurd (ne.1 (sym (eq_of j x e)))
+    by ih (inr ne) (inr e) = ap (λ b. slice_get (x ∷ xs) (cond b 0 (suc (place_in xs j)))) ne.0 ∙ ih e
+
+calls_base : (xs : List ℕ) (j : ℕ) → is_among j xs ≡ true → for_calls xs ≡ 5
+calls_base [] j h = absurd (cc)
+calls_base (x ∷ xs) j h = refl
+
+site_of : (y : Layout) (p : PlainCore) (xs : List ℕ) (j : ℕ) → are_laid_sites y p xs ≡ true → is_among j xs ≡ true → is_laid_site (site_at y p false j) ≡ true
+site_of y p [] j ok h = absurd (cc)
+site_of y p (x ∷ xs) j ok h = by (site_of y p xs j (and_right (is_laid_site (site_at y p false x)) (are_laid_sites y p xs) ok)) (or_cases (nat_eq j x) (is_among j xs) h)
+  where
+    by : (is_among j xs ≡ true → is_laid_site (site_at y p false j) ≡ true) → (nat_eq j x ≡ true) ⊎ (is_among j xs ≡ true) → is_laid_site (site_at y p false j) ≡ true
+    by ih (inl e) = subst (λ i. is_laid_site (site_at y p false i) ≡ true) (sym (eq_of j x e)) (and_left (is_laid_site (site_at y p false x)) (are_laid_sites y p xs) ok)
+    by ih (inr e) = ih e
+
+-- ---- What holds of a routine
+
+pub record Fine (p : PlainCore) (f : CoreRoutine) : Type 0 where
+  pub lines : are_lines p f.header.scope f.steps ≡ true
+  pub few : length f.steps ≤ 999
+  pub own : has_own_names f.header ≡ true
+
+fine_of : (p : PlainCore) (f : CoreRoutine) → is_routine p f ≡ true → Fine p f
+fine_of p f h =
+    let a = is_text_name f.header.title in
+    let b = has_own_names f.header in
+    let d = nat_le (length f.steps) 999 in
+    let e = are_lines p f.header.scope f.steps in
+    let rest = and_right a (b && (d && e)) h in
+    let last = and_right b (d && e) rest in
+    record { lines = and_right d e last; few = le_of (length f.steps) (and_left d e last); own = and_left b (d && e) rest }
+  where
+    le_of : (k : ℕ) → nat_le k 999 ≡ true → k ≤ 999
+    le_of k h = grind (arith, nat_tests, h)
+
+pub routine_fine : (p : PlainCore) (fs : List CoreRoutine) (j : ℕ) → are_routines p fs ≡ true → Fine p (unwrap_or (slice_get fs j) no_core)
+routine_fine p [] j ok = record { lines = refl; few = omega arith; own = refl }
+routine_fine p (f ∷ fs) zero ok = fine_of p f (and_left (is_routine p f) (are_routines p fs) ok)
+routine_fine p (f ∷ fs) (suc j) ok = routine_fine p fs j (and_right (is_routine p f) (are_routines p fs) ok)
+
+-- ranks, where calls are not counted
+pub record Ranked (y : Layout) (p : PlainCore) : Type 0 where
+  pub rank : ℕ → ℕ
+  pub low : y.counted ≡ false → (j : ℕ) → rank j < 4096
+  pub falls : y.counted ≡ false → (j : ℕ) → lines_fall rank j (routine_at p j) (routine_at p j).steps ≡ true
+
+pub ranked : (y : Layout) (p : PlainCore) → IsLaid y p → Ranked y p
+ranked y p laid = by y.counted refl
+  where
+    by : (b : Bool) → y.counted ≡ b → Ranked y p
+    by true e = record { rank = λ j. 0; low = λ h. absurd (differ e h); falls = λ h. absurd (differ e h) }
+      where
+        differ : y.counted ≡ true → y.counted ≡ false → ⊥
+        differ a b = absurd (cc)
+    by false e = let s = laid.shallow e in record { rank = s.rank; low = λ h. s.low; falls = λ h j. found s j (slice_get p.routines j) refl }
+      where
+        found : (s : IsShallow p) (j : ℕ) (o : Option CoreRoutine) → slice_get p.routines j ≡ o → lines_fall s.rank j (unwrap_or (slice_get p.routines j) no_core) (unwrap_or (slice_get p.routines j) no_core).steps ≡ true
+        found s j None is = ap (λ (o : Option CoreRoutine). lines_fall s.rank j (unwrap_or o no_core) (unwrap_or o no_core).steps) is
+        found s j (Some f) is = ap (λ (o : Option CoreRoutine). lines_fall s.rank j (unwrap_or o no_core) (unwrap_or o no_core).steps) is ∙ s.falls j f is
+
+-- ---- The start
+
+-- what the source shows is never stuck
+pub source_fine : (r : Run) → IsStuck (run_shown r) → ⊥
+source_fine (runs.Ended o marks) h = h
+source_fine (runs.Faulted o marks k places) h = h
+source_fine (runs.Going o marks) h = h
+
+module _ (y : Layout) (p : PlainCore) (is : is_sound p ≡ true) (laid : IsLaid y p) (m : Marking) (input : List ℕ) where
+  abbrev pub C : Code
+  C = code_of (program_code y p)
+
+  pub start : ℕ
+  start = unwrap_or p.start 0
+
+  abbrev pub r : Ranked y p
+  r = ranked y p laid
+
+  pub fine : (j : ℕ) → Fine p (routine_at p j)
+  fine j = routine_fine p p.routines j (and_right (begins (option_and_then (slice_get p.routines) p.start)) (are_routines p p.routines) is)
+
+  pub sits_of : (first : Bool) (j : ℕ) → is_laid_site (site_at y p first j) ≡ true → Sits y p r.rank first j
+  sits_of first j ok = record { laid = site_laid (site_at y p first j) ok; lines = (fine j).lines; few = (fine j).few; falls = λ h. r.falls h j }
+
+  pub callable : (n : ℕ) (j : ℕ) → is_among j y.called ≡ true → Callable (code_of (program_code y p)) n p y m r.rank j
+  callable n j among =
+      let got : slice_get (program_code y p).functions (function_place y j) ≡ Some (called_code y p j) = get_map (called_code y p) y.called (place_in y.called j) j (place_get y.called j among) in
+      let b = body_of (program_code y p) (function_place y j) (called_code y p j) got in
+      record { sits = sits_of false j (site_of y p y.called j laid.calls among); base_is = calls_base y.called j among; own = (fine j).own; place = b.0; body = b.1 }
+
+  -- MAIN as the run begins with it
+  abbrev g : Site
+  g = site_at y p true (unwrap_or p.start 0)
+
+  abbrev f : CoreRoutine
+  f = routine_at p (unwrap_or p.start 0)
+
+  pub main_is : main_core p ≡ routine_at p (unwrap_or p.start 0)
+  main_is = by p.start (and_left (begins (option_and_then (slice_get p.routines) p.start)) (are_routines p p.routines) is)
+    where
+      by : (o : Option ℕ) → begins (option_and_then (slice_get p.routines) o) ≡ true → unwrap_or (option_and_then (slice_get p.routines) o) no_core ≡ routine_at p (unwrap_or o 0)
+      by None h = absurd (cc)
+      by (Some i) h = refl

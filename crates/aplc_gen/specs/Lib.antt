@@ -7,3 +7,4 @@ pub mod Emitted
 pub mod Laid
 pub mod Made
 pub mod Writing
+pub mod Flows

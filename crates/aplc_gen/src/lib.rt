@@ -2,6 +2,19 @@
 //! It must not know how a program is read, nor how a C program is printed.
 #![tactic(auto)]
 
+mod expressions;
+mod flow;
+mod frame;
+mod generating;
+mod known;
+mod lead;
+mod names;
+mod passing;
+mod segments;
+mod site;
+mod statements;
+mod terms;
 mod unbuilt;
+mod widths;
 
 pub use unbuilt::first_unbuilt;

@@ -1,10 +1,10 @@
 //! The segments of a function: its lines from arms on.
 //! They must not know what a step does.
 
-ghost use Rattle.std.specs.Prelude.{◌≡◌, ◌+◌, ◌<◌, ◌≤◌, ◌∷◌, ◌++◌, [], false, true, IfOk, OnOk, length, pos, drop};
+ghost use Rattle.std.specs.Prelude.{◌≡◌, ◌+◌, ◌<◌, ◌≤◌, ◌∷◌, ◌++◌, ◌&&◌, [], false, true, IfOk, OnOk, length, pos, drop};
 ghost use Rattle.std.specs.Option.{option_to_list};
 ghost use Rattle.aplc_gen.specs.Layouts.{the_routine, the_frame};
-ghost use Rattle.aplc_gen.specs.Emitted.{lines_code, first_known, entry_known, is_line_test, arm_code, arms};
+ghost use Rattle.aplc_gen.specs.Emitted.{lines_code, is_entry, first_known, entry_known, is_line_test, arm_code, arms};
 ghost use Rattle.aplc_gen.specs.Writing.{added, site_of, slots_at, fits_lines};
 
 use crate::flow::Flow;
@@ -15,6 +15,14 @@ use crate::site::Site;
 use aplc_cprof::{Arm, Builder, CExpr, CStmt, Int, Op, binary};
 use sqlite_items::Items;
 use std::alloc::{AllocError, Global};
+
+/// Whether lines that are only gone through are left to the arm of the next one.
+fn is_left(flow: &Flow, through: bool, line: usize) -> bool
+    requires { line ≤ 1000 }
+    ensures { result ≡ (through && is_entry (the_routine (site_of flow.now)) line) }
+{
+    through && flow.is_entry(line)
+}
 
 /// The lines from number `from + 1` on: up to a branch, to the next line that has an arm, or to the function's end.
 #[tactic(auto, using(crate::proofs::Arms::segment_lines))]
@@ -36,7 +44,7 @@ pub fn emit_lines(
         if is_blank(steps) {
             continue;
         }
-        if through && flow.is_entry(index + 1) {
+        if is_left(flow, through, index + 1) {
             return emit_go_to(b, site, index as u32 + 1);
         }
         emit_line(alloc, b, flow, known, index as u32 + 1, steps)?;
@@ -152,10 +160,11 @@ pub fn all_arms(alloc: Global, b: &mut Builder, flow: &Flow) -> Result<Items<Arm
 {
     let mut arms = Items::new(alloc);
     for index in 0..flow.site().lines() {
-        if flow.is_entry(index + 1) {
-            let next = line_arm(alloc, b, flow, index)?;
-            arms.push(next)?;
+        if !flow.is_entry(index + 1) {
+            continue;
         }
+        let next = line_arm(alloc, b, flow, index)?;
+        arms.push(next)?;
     }
     Ok(arms)
 }

@@ -1,0 +1,58 @@
+use Rattle.std.proofs.Common.{rules, arith, ap, sym, refl, ◌∙◌, ◌≡◌, ◌<◌, ◌≤◌, ◌+◌, ℕ, List, [], length, map, drop, true, false}
+use Rattle.std.specs.Prelude.{unwrap_or}
+use Rattle.std.proofs.lemmas.Result.{on_ok_weaker}
+use Rattle.aplc_core.specs.PlainSteps.{Effect, effect_of}
+use Rattle.aplc_core.specs.CoreRuns.{steps_at}
+use Rattle.aplc_gen.specs.Layouts.{the_routine}
+use Rattle.aplc_gen.specs.Emitted.{lines_code, go_to}
+use Rattle.aplc_gen.specs.Writing.{Spot, site_of, added}
+use Rattle.aplc_gen.proofs.Arms.{blank_over, goes_to, line_ends, line_goes}
+use Rattle.aplc_gen.proofs.segments.emit_lines.Goals as goal
+
+-- a site's lines, where the site is the flow's
+count_at : (s t : Spot) (n : ℕ) → s ≡ t → n ≡ length (the_routine (site_of s)).steps → n ≡ length (the_routine (site_of t)).steps
+count_at s t n e h = h ∙ ap (λ (r : Spot). length (the_routine (site_of r)).steps) e
+
+line_at : (s t : Spot) (k : ℕ) (x : List Effect) → s ≡ t → x ≡ unwrap_or (steps_at (the_routine (site_of s)).steps k) [] → x ≡ unwrap_or (steps_at (the_routine (site_of t)).steps k) []
+line_at s t k x e h = h ∙ ap (λ (r : Spot). unwrap_or (steps_at (the_routine (site_of r)).steps k) []) e
+
+pub loop-index-preserved-then-is_blank : goal.loop-index-preserved-then-is_blank
+loop-index-preserved-then-is_blank c =
+    let i = c.loop-index.index in
+    let g = site_of c.args.flow.now in
+    let x = map effect_of c.steps-steps.result.now in
+    let many = count_at _ _ _ c.site-site.ensures c.lines-index-end.ensures.lines in
+    let inside : i < length (the_routine g).steps = omega (arith, c.loop-index-test.true, many) in
+    let is = line_at _ _ (i + 1) x c.site-site.ensures c.steps-steps.ensures in
+    blank_over g c.loop-index.known c.loop-index.through i x c.loop-index.b _ inside is (sym c.is_blank.ensures ∙ c.if-is_blank.true) c.loop-index.invariant
+
+pub returns-then-is_left : goal.returns-then-is_left
+returns-then-is_left c =
+    let i = c.loop-index.index in
+    let g = site_of c.args.flow.now in
+    let x = map effect_of c.steps-steps.result.now in
+    let many = count_at _ _ _ c.site-site.ensures c.lines-index-end.ensures.lines in
+    let inside : i < length (the_routine g).steps = omega (arith, c.loop-index-test.true, many) in
+    let is = line_at _ _ (i + 1) x c.site-site.ensures c.steps-steps.ensures in
+    on_ok_weaker c.emit_go_to.result (λ e. goes_to g c.loop-index.known c.loop-index.through i x c.loop-index.b c.emit_go_to.new.b _ inside is (sym c.is_blank.ensures ∙ c.if-is_blank.false) (sym c.is_left.ensures ∙ c.if-is_left.true) (e ∙ ap (λ (s : Spot). added (go_to (site_of s) (i + 1)) c.loop-index.b) c.site-site.ensures) c.loop-index.invariant) c.emit_go_to.ensures
+
+pub returns-then-branches : goal.returns-then-branches
+returns-then-branches c =
+    let i = c.loop-index.index in
+    let g = site_of c.args.flow.now in
+    let x = map effect_of c.steps-steps.result.now in
+    let many = count_at _ _ _ c.site-site.ensures c.lines-index-end.ensures.lines in
+    let inside : i < length (the_routine g).steps = omega (arith, c.loop-index-test.true, many) in
+    let is = line_at _ _ (i + 1) x c.site-site.ensures c.steps-steps.ensures in
+    line_ends g c.loop-index.known c.loop-index.through i x c.loop-index.b c.emit_line.new.b _ inside is (sym c.is_blank.ensures ∙ c.if-is_blank.false) (sym c.is_left.ensures ∙ c.if-is_left.false) c.in_ok-emit_line.ensures.code (sym c.branches.ensures ∙ c.if-branches.true) c.loop-index.invariant
+
+pub loop-index-preserved : goal.loop-index-preserved
+loop-index-preserved c =
+    let i = c.loop-index.index in
+    let g = site_of c.args.flow.now in
+    let x = map effect_of c.steps-steps.result.now in
+    let many = count_at _ _ _ c.site-site.ensures c.lines-index-end.ensures.lines in
+    let inside : i < length (the_routine g).steps = omega (arith, c.loop-index-test.true, many) in
+    let is = line_at _ _ (i + 1) x c.site-site.ensures c.steps-steps.ensures in
+    let on = sym c.branches.ensures ∙ c.if-branches.false in
+    line_goes g c.loop-index.known c.emit_line.new.known c.loop-index.through i x c.loop-index.b c.emit_line.new.b _ inside is (sym c.is_blank.ensures ∙ c.if-is_blank.false) (sym c.is_left.ensures ∙ c.if-is_left.false) c.in_ok-emit_line.ensures.code on (c.in_ok-emit_line.ensures.known on) c.loop-index.invariant

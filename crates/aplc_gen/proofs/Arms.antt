@@ -10,10 +10,17 @@ use Rattle.aplc_core.specs.PlainSteps.{Effect}
 use Rattle.aplc_core.specs.CoreRuns.{steps_at}
 use Rattle.aplc_gen.specs.Layouts.{Site, the_routine}
 use Rattle.aplc_gen.specs.Emitted.{Lead, branches, go_to, is_entry, line_code, lines_code, leave_code, known_through, first_known, entry_known, is_line_test, lead_at, lead_code, landing, arm_code, arms}
-use Rattle.aplc_gen.specs.Writing.{added, fits_steps, fits_lines}
+use Rattle.aplc_gen.specs.Writing.{Spot, site_of, added, fits_steps, fits_lines}
 use Rattle.aplc_gen.specs.Flows.{is_blank, landing_of}
 use Rattle.aplc_gen.proofs.Adding.{added_after, added_twice, nothing_added, and_left, and_right}
 use Rattle.aplc_gen.proofs.Turning.{line_next, drop_all}
+
+-- how many lines there are, and the steps of one, where the site is the flow's
+pub count_at : (s t : Spot) (n : ℕ) → s ≡ t → n ≡ length (the_routine (site_of s)).steps → n ≡ length (the_routine (site_of t)).steps
+count_at s t n e h = h ∙ ap (λ (r : Spot). length (the_routine (site_of r)).steps) e
+
+pub line_at : (s t : Spot) (l : ℕ) (x : List Effect) → s ≡ t → x ≡ unwrap_or (steps_at (the_routine (site_of s)).steps l) [] → x ≡ unwrap_or (steps_at (the_routine (site_of t)).steps l) []
+line_at s t l x e h = h ∙ ap (λ (r : Spot). unwrap_or (steps_at (the_routine (site_of r)).steps l) []) e
 
 module _ (g : Site) where
   abbrev lines : List (List Effect)

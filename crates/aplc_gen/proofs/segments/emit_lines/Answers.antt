@@ -1,20 +1,11 @@
-use Rattle.std.proofs.Common.{rules, arith, ap, sym, refl, ◌∙◌, ◌≡◌, ◌<◌, ◌≤◌, ◌+◌, ℕ, List, [], length, map, drop, true, false}
-use Rattle.std.specs.Prelude.{unwrap_or}
+use Rattle.std.proofs.Common.{arith, ap, sym, ◌∙◌, ◌<◌, ◌+◌, length, map}
 use Rattle.std.proofs.lemmas.Result.{on_ok_weaker}
-use Rattle.aplc_core.specs.PlainSteps.{Effect, effect_of}
-use Rattle.aplc_core.specs.CoreRuns.{steps_at}
+use Rattle.aplc_core.specs.PlainSteps.{effect_of}
 use Rattle.aplc_gen.specs.Layouts.{the_routine}
-use Rattle.aplc_gen.specs.Emitted.{lines_code, go_to}
+use Rattle.aplc_gen.specs.Emitted.{go_to}
 use Rattle.aplc_gen.specs.Writing.{Spot, site_of, added}
-use Rattle.aplc_gen.proofs.Arms.{blank_over, goes_to, line_ends, line_goes}
+use Rattle.aplc_gen.proofs.Arms.{count_at, line_at, blank_over, goes_to, line_ends, line_goes}
 use Rattle.aplc_gen.proofs.segments.emit_lines.Goals as goal
-
--- a site's lines, where the site is the flow's
-count_at : (s t : Spot) (n : ℕ) → s ≡ t → n ≡ length (the_routine (site_of s)).steps → n ≡ length (the_routine (site_of t)).steps
-count_at s t n e h = h ∙ ap (λ (r : Spot). length (the_routine (site_of r)).steps) e
-
-line_at : (s t : Spot) (k : ℕ) (x : List Effect) → s ≡ t → x ≡ unwrap_or (steps_at (the_routine (site_of s)).steps k) [] → x ≡ unwrap_or (steps_at (the_routine (site_of t)).steps k) []
-line_at s t k x e h = h ∙ ap (λ (r : Spot). unwrap_or (steps_at (the_routine (site_of r)).steps k) []) e
 
 pub loop-index-preserved-then-is_blank : goal.loop-index-preserved-then-is_blank
 loop-index-preserved-then-is_blank c =

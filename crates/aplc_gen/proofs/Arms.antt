@@ -1,6 +1,6 @@
 -- The code of a segment and of arms, line by line.
 use Rattle.std.proofs.Common.{◌≡◌, ◌∙◌, sym, ap, refl, ℕ, zero, suc, ◌+◌, ◌<◌, ◌≤◌, List, [], ◌∷◌, ◌++◌, length, drop, append_assoc, append-nil, arith, Bool, true, false, ◌&&◌, pos}
-use Rattle.std.specs.Prelude.{Option, Some, None, unwrap_or, slice_get, if◌then◌else◌}
+use Rattle.std.specs.Prelude.{unwrap_or, slice_get, if◌then◌else◌}
 use Rattle.std.specs.Option.{option_to_list}
 use Rattle.aplc_cprof.specs.declared.syntax.CStmt.{CStmt}
 use Rattle.aplc_cprof.specs.declared.syntax.CStmt.TheVariants as stmt
@@ -12,7 +12,7 @@ use Rattle.aplc_gen.specs.Layouts.{Site, the_routine}
 use Rattle.aplc_gen.specs.Emitted.{Lead, branches, go_to, is_entry, line_code, lines_code, leave_code, known_through, first_known, entry_known, is_line_test, lead_at, lead_code, landing, arm_code, arms}
 use Rattle.aplc_gen.specs.Writing.{Spot, site_of, added, fits_steps, fits_lines}
 use Rattle.aplc_gen.specs.Flows.{is_blank, landing_of}
-use Rattle.aplc_gen.proofs.Adding.{added_after, added_twice, nothing_added, and_left, and_right}
+use Rattle.aplc_gen.proofs.Adding.{added_after, nothing_added, and_left, and_right}
 use Rattle.aplc_gen.proofs.Turning.{line_next, drop_all}
 
 -- how many lines there are, and the steps of one, where the site is the flow's
@@ -143,8 +143,4 @@ module _ (g : Site) where
   pub arms_over : (l : ℕ) (before whole : List Arm) → length steps_there ≤ l → before ++ arms g (l + 1) (drop l steps_there) ≡ whole → before ≡ whole
   arms_over l before whole le h = sym (append-nil before) ∙ sym (ap (λ xs. before ++ arms g (l + 1) xs) (drop_all l steps_there le)) ∙ h
 
-pub ruleset arm_codes = (blank_arm, full_arm)
-
-pub ruleset segment_lines = (blank_over, goes_to, line_ends, line_goes, lines_over, number_fits)
-
-pub ruleset arms_left = (arm_added, arm_left_out, arms_over)
+pub ruleset segment_lines = (lines_over, number_fits)

@@ -1,22 +1,21 @@
 //! The segments of a function: its lines from arms on.
 //! They must not know what a step does.
 
-ghost use Rattle.std.specs.Prelude.{◌≡◌, ◌+◌, ◌<◌, ◌≤◌, ◌∷◌, ◌++◌, ◌&&◌, [], false, true, IfOk, OnOk, length, pos, drop};
-ghost use Rattle.std.specs.Option.{option_to_list};
-ghost use Rattle.aplc_gen.specs.Layouts.{the_routine, the_frame};
+ghost use Rattle.std.specs.Prelude.{◌≡◌, ◌+◌, ◌<◌, ◌≤◌, ◌&&◌, false, true, IfOk, OnOk, length, pos, drop};
+ghost use Rattle.aplc_gen.specs.Layouts.{the_routine};
 ghost use Rattle.aplc_gen.specs.Emitted.{lines_code, is_entry, first_known, entry_known, is_line_test, arm_code, arms};
 ghost use Rattle.aplc_gen.specs.Writing.{added, site_of, slots_at, fits_lines};
 
 use crate::flow::Flow;
 use crate::known::Known;
-use crate::statements::{branches, emit_go_to, emit_lead, emit_line, is_blank};
 use crate::passing::emit_leave;
 use crate::site::Site;
+use crate::statements::{branches, emit_go_to, emit_lead, emit_line, is_blank};
 use aplc_cprof::{Arm, Builder, CExpr, CStmt, Int, Op, binary};
 use sqlite_items::Items;
 use std::alloc::{AllocError, Global};
 
-/// Whether lines that are only gone through are left to the arm of the next one.
+/// Whether a line that is only gone through to is left to its arm.
 fn is_left(flow: &Flow, through: bool, line: usize) -> bool
     requires { line ≤ 1000 }
     ensures { result ≡ (through && is_entry (the_routine (site_of flow.now)) line) }
@@ -93,12 +92,7 @@ fn line_test(alloc: Global, site: &Site, line: usize) -> Result<CExpr, AllocErro
 }
 
 /// The segment of line number `index + 1`, which is a loop.
-fn segment(
-    alloc: Global,
-    b: &mut Builder,
-    flow: &Flow,
-    index: usize,
-) -> Result<CStmt, AllocError>
+fn segment(alloc: Global, b: &mut Builder, flow: &Flow, index: usize) -> Result<CStmt, AllocError>
     requires inside { index < length (the_routine (site_of flow.now)).steps }
     requires few { length (the_routine (site_of flow.now)).steps ≤ 999 }
     requires fits { fits_lines (slots_at flow.now) (the_routine (site_of flow.now)).steps ≡ true }
@@ -114,7 +108,6 @@ fn segment(
 }
 
 /// The code of the arm of line number `index + 1`.
-#[tactic(auto, using(crate::proofs::Arms::arm_codes))]
 fn emit_arm_body(
     alloc: Global,
     b: &mut Builder,
@@ -152,7 +145,7 @@ fn line_arm(alloc: Global, b: &mut Builder, flow: &Flow, index: usize) -> Result
 }
 
 /// The arms of a function's switch.
-#[tactic(auto, using(crate::proofs::Arms::arms_left))]
+#[tactic(auto, using(crate::proofs::Arms::arms_over))]
 pub fn all_arms(alloc: Global, b: &mut Builder, flow: &Flow) -> Result<Items<Arm>, AllocError>
     requires { fits_lines (slots_at flow.now) (the_routine (site_of flow.now)).steps ≡ true }
     ensures arms { IfOk result (λ a. a ≡ arms (site_of flow.now) 1 (the_routine (site_of flow.now)).steps) }

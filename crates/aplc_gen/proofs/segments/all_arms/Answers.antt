@@ -1,6 +1,5 @@
-use Rattle.std.proofs.Common.{arith, sym, ◌∙◌, ◌≡◌, ◌<◌, ◌+◌, length, true, false}
+use Rattle.std.proofs.Common.{arith, sym, ◌∙◌, ◌<◌, length}
 use Rattle.aplc_gen.specs.Layouts.{the_routine}
-use Rattle.aplc_gen.specs.Emitted.{arms}
 use Rattle.aplc_gen.specs.Writing.{site_of}
 use Rattle.aplc_gen.proofs.Arms.{count_at, arm_added, arm_left_out}
 use Rattle.aplc_gen.proofs.segments.all_arms.Goals as goal

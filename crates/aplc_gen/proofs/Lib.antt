@@ -54,6 +54,7 @@ pub mod StepsResults
 pub mod StepsShows
 pub mod StepsSlots
 pub mod StepsStores
+pub mod StepsWritten
 pub mod Tables
 pub mod There
 pub mod Trees

@@ -200,6 +200,7 @@ pub fn branches(steps: &[Step]) -> bool
 }
 
 /// The code of the steps of a line. A branch ends it.
+#[tactic(auto, using(crate::proofs::StepsWritten::steps_left))]
 fn emit_steps(
     alloc: Global,
     b: &mut Builder,

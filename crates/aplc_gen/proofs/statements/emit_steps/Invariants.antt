@@ -2,7 +2,7 @@ use Rattle.std.proofs.Common.{◌≡◌, drop, map, true}
 use Rattle.aplc_core.specs.PlainSteps.{effect_of}
 use Rattle.aplc_gen.specs.Emitted.{steps_code, known_through, branches}
 use Rattle.aplc_gen.specs.Writing.{added, site_of, slots_at, fits_steps}
-use Rattle.aplc_gen.proofs.lines.emit_steps.Given as goal
+use Rattle.aplc_gen.proofs.statements.emit_steps.Given as goal
 
 -- the code so far, with that of the steps left, is the whole
 abbrev pub invariant-loop-step : goal.invariant-loop-step

@@ -27,6 +27,8 @@ pub mod MadeFits
 pub mod MadeLaid
 pub mod MadeLists
 pub mod MadeServes
+pub mod ModestCuts
+pub mod ModestPrograms
 pub mod NamesRead
 pub mod Numbered
 pub mod Operands

@@ -35,7 +35,7 @@ use Rattle.aplc_gen.proofs.SoundTrees.{first_empty, second_empty, at_most, state
 
 -- ---- Lists
 
-all_at : {X : Type 0} (P : X → Type 0) (xs : List X) (k : ℕ) (x : X) → All P xs → slice_get xs k ≡ Some x → P x
+pub all_at : {X : Type 0} (P : X → Type 0) (xs : List X) (k : ℕ) (x : X) → All P xs → slice_get xs k ≡ Some x → P x
 all_at P [] k x h e = absurd (none_some x e)
 all_at P (y ∷ ys) zero x h e = subst P (some_same y x e) (All-head P y ys h)
 all_at P (y ∷ ys) (suc k) x h e = all_at P ys k x (All-tail P y ys h) e

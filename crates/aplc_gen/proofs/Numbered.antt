@@ -1,16 +1,17 @@
 -- Lists of names: where each stands, and which are among them.
-use Rattle.std.proofs.Common.{◌≡◌, ◌∙◌, sym, ap, refl, ℕ, zero, suc, ◌+◌, ◌-◌, ◌≤◌, ◌<◌, List, [], ◌∷◌, ◌++◌, length, drop, slice_get, Option, Some, None, Bool, true, false, cond, nat_eq, nat_lt, if◌then◌else◌, ◌||◌, arith, position}
-use Rattle.std.specs.List.{position_or_len, list_any}
+use Rattle.std.proofs.Common.{◌≡◌, ◌∙◌, sym, ap, subst, refl, append_assoc, append-nil, ℕ, zero, suc, ◌+◌, ◌-◌, ◌≤◌, ◌<◌, List, [], ◌∷◌, ◌++◌, length, drop, slice_get, Option, Some, None, Bool, true, false, cond, nat_eq, nat_lt, if◌then◌else◌, ◌||◌, arith, position}
+use Rattle.std.specs.List.{position_or_len, list_any, IsDistinct, AllByRecursion}
 use Rattle.std.specs.Option.{option_to_list}
 use Rattle.std.specs.Prelude.{reverse}
 use Rattle.std.proofs.lemmas.List.{reverse-append}
 use Rattle.std.proofs.lemmas.Bool.Decides.{nat_tests}
 use Rattle.std.proofs.lemmas.List.Recursion.{is_position_or_len}
 use Rattle.std.proofs.lemmas.Bool.{eqb-true}
+use Rattle.std.proofs.lemmas.Map.Keys.{IsDistinct-head, IsDistinct-tail}
 use Rattle.indexmap.specs.IndexSet.{insert_key}
 use Rattle.aplc_names.specs.States.{is_among}
 use Rattle.aplc_gen.specs.Layouts.{place_in}
-use Rattle.aplc_gen.specs.Made.{with_new}
+use Rattle.aplc_gen.specs.Made.{with_new, with_each}
 use Rattle.aplc_gen.specs.Writing.{IsSetOf}
 
 turned : (m n : ℕ) → nat_eq m n ≡ nat_eq n m
@@ -123,3 +124,27 @@ pub ruleset names_left = (names_more, names_none, names_all)
 
 pub with_name : (n : ℕ) (ks new : List ℕ) → new ≡ insert_key nat_eq ks n → new ≡ with_new n ks
 with_name n ks new e = e ∙ ap (λ b. if b then ks else ks ++ n ∷ []) (has_name n ks)
+
+out : (x m : ℕ) (xs ms : List ℕ) → AllByRecursion (λ y. nat_eq x y ≡ false) (xs ++ m ∷ ms) → nat_eq x m ≡ false
+out x m [] ms h = h.0
+out x m (k ∷ xs) ms h = out x m xs ms h.1
+
+neither : (a b : Bool) → a ≡ false → b ≡ false → (a || b) ≡ false
+neither true b e h = e
+neither false b e h = h
+
+apart : (m : ℕ) (xs ms : List ℕ) → IsDistinct nat_eq (xs ++ m ∷ ms) → is_among m xs ≡ false
+apart m [] ms d = refl
+apart m (x ∷ xs) ms d =
+    neither (nat_eq m x) (is_among m xs) (turned m x ∙ out x m xs ms (IsDistinct-head nat_eq x (xs ++ m ∷ ms) d)) (apart m xs ms (IsDistinct-tail nat_eq x (xs ++ m ∷ ms) d))
+
+-- numbers that stand once are kept
+each_kept : (xs ys : List ℕ) → IsDistinct nat_eq (xs ++ ys) → with_each xs ys ≡ xs ++ ys
+each_kept xs [] d = sym (append-nil xs)
+each_kept xs (m ∷ ms) d =
+    let same = append_assoc xs (m ∷ []) ms in
+    ap (λ b. with_each (if b then xs else xs ++ m ∷ []) ms) (apart m xs ms d)
+    ∙ each_kept (xs ++ m ∷ []) ms (subst (IsDistinct nat_eq) (sym same) d) ∙ same
+
+pub copied : (ns start new : List ℕ) → IsDistinct nat_eq ns → start ≡ [] → new ≡ with_each start ns → new ≡ ns
+copied ns start new d s e = e ∙ ap (λ xs. with_each xs ns) s ∙ each_kept [] ns d

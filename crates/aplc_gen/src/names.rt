@@ -1,10 +1,10 @@
 //! Lists of names that know where each name stands.
 //! They must not know what the names are for.
 
-ghost use Rattle.std.specs.Prelude.{◌≡◌, ◌≤◌, [], length, slice_get, option_copied, OnOk};
+ghost use Rattle.std.specs.Prelude.{◌≡◌, ◌≤◌, [], length, slice_get, option_copied, IfOk, OnOk};
 ghost use Rattle.aplc_names.specs.States.{is_among};
 ghost use Rattle.aplc_gen.specs.Layouts.{place_in};
-ghost use Rattle.aplc_gen.specs.Made.{with_new};
+ghost use Rattle.aplc_gen.specs.Made.{with_new, with_each};
 
 use indexmap::IndexSet;
 use std::alloc::{AllocError, Global};
@@ -46,6 +46,25 @@ impl Names {
     {
         self.names.insert(name)?;
         Ok(())
+    }
+
+    /// Puts each of these behind the others, if it is not among them.
+    pub fn add_all(&mut self, names: &[u32]) -> Result<(), AllocError>
+        ensures { OnOk result (self.new ≡ with_each self.old names.now) }
+    {
+        for name in names {
+            self.add(*name)?;
+        }
+        Ok(())
+    }
+
+    /// The same numbers once more.
+    pub fn copy(&self, alloc: Global) -> Result<Names, AllocError>
+        ensures { IfOk result (λ ns. ns ≡ self.now) }
+    {
+        let mut names = Names::new(alloc);
+        names.add_all(self.names.as_slice())?;
+        Ok(names)
     }
 
     pub fn get(&self, place: usize) -> Option<&u32>

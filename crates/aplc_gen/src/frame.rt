@@ -35,6 +35,19 @@ impl Model for Frame {
 }
 
 impl Frame {
+    /// The variables of a function: those of these names, their flags and this many slots.
+    pub fn new(names: Names, unsure: Names, slots: u32, sure: Names) -> Frame
+        requires short { length names + length unsure + slots < 2 ^ 31 }
+        ensures { result ≡ record { names = names; unsure = unsure; slots = slots; sure = sure } }
+    {
+        Frame {
+            names,
+            unsure,
+            slots,
+            sure,
+        }
+    }
+
     /// The variable of a local name.
     pub fn value(&self, name: u32) -> Int
         ensures { result ≡ int.Local (place_in self.now.names name) }
@@ -124,6 +137,26 @@ impl Model for Layout {
 }
 
 impl Layout {
+    /// The variables of a program, with those of each function by its number.
+    pub fn new(
+        globals: Names,
+        unsure: Names,
+        called: Names,
+        counted: bool,
+        frames: Vec<Frame>,
+    ) -> Layout
+        requires short { HasShortLists record { globals = globals; unsure = unsure; called = called; counted = counted; frames = frames.items } }
+        ensures { result ≡ record { globals = globals; unsure = unsure; called = called; counted = counted; frames = frames.items } }
+    {
+        Layout {
+            globals,
+            unsure,
+            called,
+            counted,
+            frames: List::from_vec(frames),
+        }
+    }
+
     /// The number of the first global variable that is not for calls.
     fn base(&self) -> u32
         ensures base { result ≡ global_base self.now }

@@ -19,6 +19,7 @@ pub mod Induction
 pub mod Knowing
 pub mod Landing
 pub mod LayoutExamples
+pub mod Laying
 pub mod Leaving
 pub mod Lines
 pub mod Listed

@@ -128,7 +128,7 @@ module _ (p : PlainCore) (sc : ℕ → Scope) (hs : List ℕ) where
 
 -- ---- Functions
 
-routine_few : (p : PlainCore) (f : CoreRoutine) (s : Needs) → is_routine p f ≡ true → is_low_routine f ≡ true → Few (length p.routines) s → Few (length p.routines) (routine_needs f s)
+pub routine_few : (p : PlainCore) (f : CoreRoutine) (s : Needs) → is_routine p f ≡ true → is_low_routine f ≡ true → Few (length p.routines) s → Few (length p.routines) (routine_needs f s)
 routine_few p f s ok low h =
     lines_few p f.header.scope (names_of_header f.header) f.steps (record s { slots = 0 }) (lines_sound p f ok) (and_right (are_below (names_of_header f.header)) (are_low_lines f.header.scope (names_of_header f.header) f.steps) low)
     (record { globals_once = h.globals_once; globals_below = h.globals_below; called_once = h.called_once; called_below = h.called_below; slots_few = omega arith })

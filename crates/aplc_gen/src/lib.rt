@@ -7,6 +7,7 @@ mod flow;
 mod frame;
 mod generating;
 mod known;
+mod layout;
 mod lead;
 mod names;
 mod passing;

@@ -1,17 +1,16 @@
 -- The variables of a program's functions, made one function after the other.
-use Rattle.std.proofs.Common.{◌≡◌, ◌∙◌, sym, ap, subst, refl, ℕ, zero, suc, ◌+◌, ◌<◌, ◌≤◌, ◌^◌, List, [], ◌∷◌, ◌++◌, length, map, drop, append_assoc, append-nil, true, nat_le, ◌&&◌, Option, arith, slice_get}
+use Rattle.std.proofs.Common.{◌≡◌, ◌∙◌, sym, ap, subst, refl, ℕ, zero, suc, ◌+◌, ◌<◌, ◌≤◌, ◌^◌, List, [], ◌∷◌, ◌++◌, length, map, drop, append_assoc, append-nil, true, nat_le, ◌&&◌, arith, slice_get}
 use Rattle.std.specs.Prelude.{unwrap_or, option_map, option_and_then}
 use Rattle.std.specs.Option.{option_to_list}
 use Rattle.aplc_syntax.specs.declared.tree.Function.{Function}
 use Rattle.aplc_syntax.specs.declared.tree.Program.{Program}
 use Rattle.aplc_names.specs.declared.scope.Scope.{Scope}
-use Rattle.aplc_names.specs.PlainPrograms.{plain, routine_of, name_number, names_of_header}
+use Rattle.aplc_names.specs.PlainPrograms.{routine_of, name_number, names_of_header}
 use Rattle.aplc_core.specs.PlainSteps.{Effect}
 use Rattle.aplc_core.specs.CoreRuns.{CoreRoutine, PlainCore, no_core, steps_at}
 use Rattle.aplc_core.specs.CorePrograms.{Core}
-use Rattle.aplc_core.specs.Lowering.{lowered_routine, lowered_program}
+use Rattle.aplc_core.specs.Lowering.{lowered_routine}
 use Rattle.aplc_gen.specs.Layouts.{Frame, Layout, routine_at}
-use Rattle.aplc_gen.specs.Laid.{HasCounts}
 use Rattle.aplc_gen.specs.Sound.{is_sound, is_routine, are_routines, begins}
 use Rattle.aplc_gen.specs.Writing.{lowered_core, HasShortLists}
 use Rattle.aplc_gen.specs.Made.{Needs, no_needs, with_new, with_each, steps_need, lines_need, routine_needs, all_need, parameters, frame_made, frames_made, layout_with, layout_of, are_low_steps, are_low_lines, are_below, is_low_routine, are_low_routines, is_modest}

@@ -11,6 +11,7 @@ pub loop-index-preserved : goal.loop-index-preserved
 loop-index-preserved c =
     let f = routine_at (lowered_core c.args.core.now) c.args.function in
     let x = map effect_of c.steps_of.result.now in
-    let inside : c.loop-index.index < length f.steps = omega (arith, c.loop-index-test.true, c.line_count-index-end.ensures.lines) in
-    (line_needed f.header.scope f.steps c.loop-index.index x c.loop-index.self c.add_steps.new.self (routine_needs f c.args.self.now) inside c.steps_of.ensures c.in_ok-add_steps.ensures c.loop-index.invariant.0,
-    low_lines f.header.scope (names_of_header f.header) f.steps c.loop-index.index x inside c.steps_of.ensures c.loop-index.invariant.1)
+    let inside : c.loop-index.index < length f.steps = omega (arith, c.loop-index-test.true, c.line_count-index-end.ensures.lines) in (
+      line_needed f.header.scope f.steps c.loop-index.index x c.loop-index.self c.add_steps.new.self (routine_needs f c.args.self.now) inside c.steps_of.ensures c.in_ok-add_steps.ensures c.loop-index.invariant.0,
+      low_lines f.header.scope (names_of_header f.header) f.steps c.loop-index.index x inside c.steps_of.ensures c.loop-index.invariant.1,
+    )

@@ -3,6 +3,7 @@
 It shares nothing with the crates: tokens by characters, statements by trying every form, chains of calls by sets.
 """
 
+import evaluation
 import typing_rules
 
 GREATEST = 9223372036854775807
@@ -20,17 +21,14 @@ MONADIC = set("+-×⌈⌊~⍴,⍳⍉|")
 DYADIC = set("⍴,⍳↑↓⍉∊")
 TURNS = set("⌽⊖")
 STROKES = set("/⌿\\⍀")
-BUILT = set("+-×")
+MONADIC_BUILT = {("+", None), ("-", None)}
+DYADIC_BUILT = {("+", None), ("-", None), ("×", None)}
 
 
 class Refused(Exception):
     def __init__(self, place, number):
         super().__init__(place, number)
         self.place, self.number = place, number
-
-
-class Limit(Exception):
-    pass
 
 
 class Token:
@@ -447,50 +445,46 @@ def shadows(functions, names):
 
 # ---- What is built
 
-def is_built(node):
-    return node.kind == "numbers" and len(node.value) == 1 or node.kind == "dyad" and node.value[0] in BUILT
+def is_built(node, routines, fact):
+    """Whether a node is built; `fact` is that of a name that is read."""
+    if node.kind == "numbers":
+        return len(node.value) == 1
+    if node.kind == "named":
+        return node.value in routines or fact is None or fact[1] == ()
+    if node.kind == "assigned":
+        return not node.lists
+    return node.kind == "mono" and node.value in MONADIC_BUILT or node.kind == "dyad" and node.value in DYADIC_BUILT
 
 
-def later(functions):
+def later(functions, typing):
+    """The places of what is not built."""
     for f in functions:
         for _, statement in f.lines:
-            if statement:
-                branch, _, node = statement
-                yield from () if branch is None else (branch,)
-                yield from (n.place for n in node.walk() if not is_built(n))
+            for node in statement[2].walk() if statement else ():
+                if not is_built(node, typing.routines, typing.fact(("node", node))):
+                    yield node.place
 
 
-def value(node):
-    if node.kind == "numbers":
-        return node.value[0]
-    right = value(node.children[1])
-    left = value(node.children[0])
-    symbol = node.value[0]
-    result = left + right if symbol == "+" else left - right if symbol == "-" else left * right
-    if abs(result) > GREATEST:
-        raise Limit
-    return result
+def checked(source):
+    """The functions of a source that is built, else its first refusal."""
+    if len(source) > 262144:
+        raise Refused(262144, 23)
+    functions, declarations, origin = parse(lines_of(source))
+    main = resolve(functions, declarations)
+    declared = {tokens[1].value: (tokens[2].value, tokens[4].value) for tokens in declarations}
+    typing = typing_rules.Typing(functions, declared, origin)
+    for refusal in typing.all_refusals()[:1]:
+        raise Refused(*refusal)
+    for place in sorted(later(functions, typing))[:1]:
+        raise Refused(place, 90)
+    return functions, main
 
 
-def run(source):
-    """The status, and what is written to standard output and to standard error."""
+def run(source, most_lines=20000):
+    """The status, what is written to standard output and what to standard error. The status is None where the program goes
+    on behind that many lines with statements."""
     try:
-        if len(source) > 262144:
-            raise Refused(262144, 23)
-        functions, declarations, origin = parse(lines_of(source))
-        main = resolve(functions, declarations)
-        declared = {tokens[1].value: (tokens[2].value, tokens[4].value) for tokens in declarations}
-        for refusal in typing_rules.refusals(functions, declared, origin)[:1]:
-            raise Refused(*refusal)
-        for place in sorted(later(functions))[:1]:
-            raise Refused(place, 90)
+        functions, main = checked(source)
     except Refused as r:
         return 2, "", f"REFUSED {r.number} {WORDS[r.number]} AT {r.place}\n"
-    out = ""
-    for number, (_, statement) in enumerate(main.lines, 1):
-        if statement:
-            try:
-                out += str(value(statement[2])).replace("-", "¯") + "\n"
-            except Limit:
-                return 1, out, f"LIMIT ERROR MAIN[{number}]\n"
-    return 0, out, ""
+    return evaluation.Evaluation(functions, most_lines).run(main)

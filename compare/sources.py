@@ -131,6 +131,55 @@ class Sources:
             lines += [header + self.pick([";X;Y", ";X;Y", ";X;Y", ";X", ""])] + body + ["∇"]
         return lines
 
+    def scalar(self, depth, variables, labels, calls):
+        """A value of one number, of names and of calls as (name, count of arguments)."""
+        names = variables + labels
+        if depth <= 0 or self.likely(0.25):
+            return self.pick(names + names + [self.number(), self.number()])
+        right = self.scalar(depth - 1, variables, labels, calls)
+        left = self.pick(names + [self.number(), "(" + self.scalar(depth - 2, variables, labels, calls) + ")"])
+        f, count = self.pick(calls)
+        return self.pick([
+            left + self.pick("+-×") + right, left + self.pick("+-×") + right, left + self.pick("+-×") + right,
+            self.pick("+-") + right, self.pick(variables) + "←" + right, "(" + right + ")" + self.pick("+-×") + left,
+            [left + self.pick("+-×") + f, f + " " + right, left + " " + f + " " + right][count],
+        ])
+
+    def scalar_line(self, variables, labels, calls):
+        value = self.scalar(self.pick([1, 2, 3, 4]), variables, labels[:1], calls)
+        name, label = self.pick(variables), self.pick(labels + ["0"])
+        f, count = self.pick(calls)
+        return self.pick([
+            name + "←" + value, name + "←" + value, name + "←" + name + self.pick("-+") + "1", value, value, "",
+            "→" + label, "→" + label + "×" + name, "→" + label + "+" + name, "→" + str(self.random.randint(0, 7)), "→" + value,
+            self.pick(["1 ", "X "]) * (count == 2) + f + self.pick([" 2", " X", " " + value]) * (count > 0),
+        ])
+
+    def scalar_function(self, f, count, result, calls):
+        local = [f + x for x in self.random.sample("XYZ", self.pick([0, 0, 1, 2]))]
+        labels = [f + x for x in self.random.sample("LMN", self.pick([0, 1, 2, 3]))]
+        variables = ["X", "Y"] + local + ["A", "B"][2 - count :] + ["R"] * result
+        if self.likely(0.02):
+            variables += [self.pick(["Z", "FX", f + "L"])]
+        first = [x + "←" + self.number() for x in (["X", "Y"] if f == "MAIN" else []) + local + ["R"] * result if self.likely(0.8)]
+        body = [self.scalar_line(variables, labels, calls) for _ in range(self.random.randint(1, 6))]
+        if result and self.likely(0.7):
+            body.append("R←" + self.scalar(2, variables, [], calls))
+        for at, label in zip(self.random.sample(range(len(body)), min(len(labels), len(body))), labels):
+            body[at] = label + ":" + body[at]
+        header = "R←" * result + {0: f, 1: f + " B", 2: "A " + f + " B"}[count]
+        return ["∇" + header + "".join(";" + x for x in local)] + first + body + ["∇"]
+
+    def scalars(self):
+        """Functions of scalars that call each other, with labels, branches, local and global names."""
+        shapes = [("F", 1), ("G", 2), ("H", 0), ("P", 1)][: self.random.randint(1, 4)]
+        results = {f: self.likely(0.85) for f, _ in shapes}
+        calls = [(f, count) for f, count in shapes if results[f]] or shapes
+        lines = []
+        for f, count in self.random.sample(shapes + [("MAIN", 0)], len(shapes) + 1):
+            lines += self.scalar_function(f, count, results.get(f, False), calls)
+        return lines
+
     def limits(self):
         """Nesting, nodes, lines and functions about as many as there may be."""
         count = self.random.randint(30, 34)
@@ -154,7 +203,9 @@ class Sources:
 
     def source(self):
         share = self.random.random()
-        kinds = [(0.01, self.limits), (0.2, self.sums), (0.35, self.calls), (0.7, self.typed), (1, self.forms)]
+        kinds = [
+            (0.01, self.limits), (0.1, self.sums), (0.2, self.calls), (0.6, self.scalars), (0.8, self.typed), (1, self.forms),
+        ]
         lines = next(lines_of for most, lines_of in kinds if share < most)()
         end = self.pick(["\n", "\n", "\n", "\r\n"])
         source = (end.join(lines) + (end if self.likely(0.9) else "")).encode()

@@ -462,17 +462,12 @@ class Typing:
             for line in range(len(routine.lines)):
                 self.one_line(name, line)
 
-    def settle(self):
+    def all_refusals(self):
+        """All refusals under the least facts, as places with numbers, the first of them in front."""
         while self.rose:
             self.one_round()
+        return sorted(self.refusals)
 
 
 # `⍞` is no name of a method
 setattr(Typing, "⍞", Typing.line)
-
-
-def refusals(functions, declared, origin):
-    """All refusals under the least facts, as places with numbers, the first of them in front."""
-    typing = Typing(functions, declared, origin)
-    typing.settle()
-    return sorted(typing.refusals)

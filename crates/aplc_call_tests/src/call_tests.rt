@@ -73,7 +73,7 @@ fn compiles(rt: HostRuntime) -> Result<(), Fail> {
         ..PLAIN
     };
     let text =
-        b"static void f0(void);\nstatic void f0(void) {\nint64_t v0;\nat(\"MAIN\", 1);\nv0 = mul(3LL, 4LL);\nv0 = add(2LL, v0);\nput_num(v0, 0LL);\nput_char(10LL);\n}\nint main(void) {\nf0();\nreturn 0;\n}\n";
+        b"static void f0(void);\nstatic void f0(void) {\nint64_t v0, v1;\nat(\"MAIN\", 1);\nv1 = mul(4LL, 3LL);\nv1 = add(2LL, v1);\nput_num(v1, 0LL);\nput_char(10LL);\nreturn;\n}\nint main(void) {\nf0();\nreturn 0;\n}\n";
     let done = Answer {
         status: Status::Done,
         text,
@@ -86,12 +86,12 @@ fn compiles(rt: HostRuntime) -> Result<(), Fail> {
         ..PLAIN
     };
     let text =
-        b"static void f0(void);\nstatic void f0(void) {\nint64_t v0;\nat(\"MAIN\", 2);\nv0 = sub((0LL - 7LL), 0LL);\nput_num(v0, 0LL);\nput_char(10LL);\n}\nint main(void) {\nf0();\nreturn 0;\n}\n";
+        b"static void f0(void);\nstatic void f0(void) {\nint64_t v0, v1;\nat(\"MAIN\", 2);\nv1 = sub((0LL - 7LL), 0LL);\nput_num(v1, 0LL);\nput_char(10LL);\nreturn;\n}\nint main(void) {\nf0();\nreturn 0;\n}\n";
     check(&rt, rt.alloc(), &case, &Answer { text, ..done })
 }
 
 // What the stages of the reader refuse, one after the other, and what is not built yet.
-const REFUSED: [(&str, &[u8]); 20] = [
+const REFUSED: [(&str, &[u8]); 25] = [
     ("", b"REFUSED 15 MAIN AT 0\n"),
     ("∇MAIN\n'abc\n∇\n", b"REFUSED 3 QUOTE AT 8\n"),
     ("∇MAIN\n¯\n∇\n", b"REFUSED 2 CHARACTER AT 8\n"),
@@ -115,12 +115,26 @@ const REFUSED: [(&str, &[u8]); 20] = [
     ("∇F\n∇\n", b"REFUSED 15 MAIN AT 0\n"),
     ("∇MAIN B\n∇\n", b"REFUSED 15 MAIN AT 3\n"),
     ("∇MAIN\nL←1\nL:\n∇\n", b"REFUSED 16 ASSIGN AT 8\n"),
-    ("∇MAIN\nA←1\n∇\n", b"REFUSED 90 LATER AT 8\n"),
+    ("∇MAIN\n⎕←1\n∇\n", b"REFUSED 90 LATER AT 8\n"),
+    ("∇MAIN\n×1\n∇\n", b"REFUSED 90 LATER AT 8\n"),
+    ("∇MAIN\n'A'\n∇\n", b"REFUSED 90 LATER AT 8\n"),
+    ("∇MAIN\nA←⍞\n∇\n", b"REFUSED 90 LATER AT 12\n"),
     ("∇MAIN\n1 2\n∇\n", b"REFUSED 90 LATER AT 8\n"),
     ("∇MAIN\n2+⍳3\n∇\n", b"REFUSED 90 LATER AT 10\n"),
     ("∇MAIN\n1 2⍴⍳3\n∇\n", b"REFUSED 90 LATER AT 8\n"),
-    ("∇MAIN\n1\nL:→L\n∇\n", b"REFUSED 90 LATER AT 12\n"),
-    ("∇MAIN\n1\n∇\n∇F\n-1\n∇\n", b"REFUSED 90 LATER AT 19\n"),
+    ("∇MAIN\n1\nL:→⍳L\n∇\n", b"REFUSED 90 LATER AT 15\n"),
+    (
+        "∇MAIN\nF 1\n∇\n∇F B\nB\n⌽-B\n∇\n",
+        b"REFUSED 90 LATER AT 25\n",
+    ),
+    (
+        "∇MAIN\nF 5⌊1\n∇\n∇F B\n⌽-B\n∇\n",
+        b"REFUSED 90 LATER AT 11\n",
+    ),
+    (
+        "VAR A NUM RANK 1\n∇MAIN\nA+A\n∇\n",
+        b"REFUSED 90 LATER AT 25\n",
+    ),
 ];
 
 // What the typing rules refuse, in programs of which not all is built.
@@ -230,7 +244,7 @@ fn stops(rt: HostRuntime) -> Result<(), Fail> {
 
 // The text of `2+3×4` behind the preamble.
 const ROW: &[u8] =
-    b"static void f0(void);\nstatic void f0(void) {\nint64_t v0;\nat(\"MAIN\", 1);\nv0 = mul(3LL, 4LL);\nv0 = add(2LL, v0);\nput_num(v0, 0LL);\nput_char(10LL);\n}\nint main(void) {\nf0();\nreturn 0;\n}\n";
+    b"static void f0(void);\nstatic void f0(void) {\nint64_t v0, v1;\nat(\"MAIN\", 1);\nv1 = mul(4LL, 3LL);\nv1 = add(2LL, v1);\nput_num(v1, 0LL);\nput_char(10LL);\nreturn;\n}\nint main(void) {\nf0();\nreturn 0;\n}\n";
 
 const RAN: Answer<'static> = Answer {
     status: Status::Done,
@@ -253,7 +267,7 @@ fn runs(rt: HostRuntime) -> Result<(), Fail> {
         ..PLAIN
     };
     let text =
-        b"static void f0(void);\nstatic void f0(void) {\nint64_t v0;\nat(\"MAIN\", 1);\nv0 = sub(5LL, 2LL);\nv0 = sub(10LL, v0);\nput_num(v0, 0LL);\nput_char(10LL);\n}\nint main(void) {\nf0();\nreturn 0;\n}\n";
+        b"static void f0(void);\nstatic void f0(void) {\nint64_t v0, v1;\nat(\"MAIN\", 1);\nv1 = sub(5LL, 2LL);\nv1 = sub(10LL, v1);\nput_num(v1, 0LL);\nput_char(10LL);\nreturn;\n}\nint main(void) {\nf0();\nreturn 0;\n}\n";
     let seven = Answer {
         text,
         out: b"7\n",
@@ -266,7 +280,7 @@ fn runs(rt: HostRuntime) -> Result<(), Fail> {
         ..PLAIN
     };
     let text =
-        b"static void f0(void);\nstatic void f0(void) {\nint64_t v0;\nat(\"MAIN\", 1);\nv0 = add(9223372036854775807LL, 1LL);\nput_num(v0, 0LL);\nput_char(10LL);\n}\nint main(void) {\nf0();\nreturn 0;\n}\n";
+        b"static void f0(void);\nstatic void f0(void) {\nint64_t v0, v1;\nat(\"MAIN\", 1);\nv1 = add(9223372036854775807LL, 1LL);\nput_num(v1, 0LL);\nput_char(10LL);\nreturn;\n}\nint main(void) {\nf0();\nreturn 0;\n}\n";
     let limit = Answer {
         status: Status::Faulted,
         text,
@@ -276,7 +290,7 @@ fn runs(rt: HostRuntime) -> Result<(), Fail> {
     check(&rt, rt.alloc(), &case, &limit)
 }
 
-// A source in parentheses, and one with a declaration, a local name, a label, a comment and a further function.
+// A source in parentheses, and one with a declaration, a label, a comment and a further function.
 #[test]
 fn reads_whole_sources(rt: HostRuntime) -> Result<(), Fail> {
     let case = Case {
@@ -285,7 +299,7 @@ fn reads_whole_sources(rt: HostRuntime) -> Result<(), Fail> {
         ..PLAIN
     };
     let text =
-        b"static void f0(void);\nstatic void f0(void) {\nint64_t v0, v1;\nat(\"MAIN\", 1);\nv1 = add(2LL, 3LL);\nv0 = mul(v1, 4LL);\nput_num(v0, 0LL);\nput_char(10LL);\n}\nint main(void) {\nf0();\nreturn 0;\n}\n";
+        b"static void f0(void);\nstatic void f0(void) {\nint64_t v0, v1, v2;\nat(\"MAIN\", 1);\nv2 = add(2LL, 3LL);\nv1 = mul(v2, 4LL);\nput_num(v1, 0LL);\nput_char(10LL);\nreturn;\n}\nint main(void) {\nf0();\nreturn 0;\n}\n";
     let twenty = Answer {
         text,
         out: b"20\n",
@@ -294,11 +308,11 @@ fn reads_whole_sources(rt: HostRuntime) -> Result<(), Fail> {
     check(&rt, rt.alloc(), &case, &twenty)?;
     let case = Case {
         words: &["--run", "f"],
-        file: "ORIGIN 0\nVAR A NUM RANK 1\n\n∇R←F B\n∇\n∇MAIN;X\n⍝ no statement\nL: 2 + 3 ⍝ five\n∇".as_bytes(),
+        file: "ORIGIN 0\nVAR A NUM RANK 1\n\n∇R←F B\n∇\n∇MAIN\n⍝ no statement\nL: 2 + 3 ⍝ five\n∇".as_bytes(),
         ..PLAIN
     };
     let text =
-        b"static void f0(void);\nstatic void f0(void) {\nint64_t v0;\nat(\"MAIN\", 2);\nv0 = add(2LL, 3LL);\nput_num(v0, 0LL);\nput_char(10LL);\n}\nint main(void) {\nf0();\nreturn 0;\n}\n";
+        b"static void f0(void);\nstatic void f0(void) {\nint64_t v0, v1;\nat(\"MAIN\", 2);\nv1 = add(2LL, 3LL);\nput_num(v1, 0LL);\nput_char(10LL);\nreturn;\n}\nint main(void) {\nf0();\nreturn 0;\n}\n";
     let five = Answer {
         text,
         out: b"5\n",
@@ -307,7 +321,7 @@ fn reads_whole_sources(rt: HostRuntime) -> Result<(), Fail> {
     check(&rt, rt.alloc(), &case, &five)
 }
 
-// Its location, two assignments, the number, the line end, and the end of its function: six steps.
+// Its location, two assignments, the number, the line end, and the return: six steps.
 #[test]
 fn counts_steps(rt: HostRuntime) -> Result<(), Fail> {
     let spent = Answer {

@@ -9,4 +9,6 @@ mod entry_tests;
 #[cfg(test)]
 mod exec_tests;
 #[cfg(test)]
+mod function_tests;
+#[cfg(test)]
 mod limit_tests;

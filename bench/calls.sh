@@ -15,7 +15,7 @@ empty() { # COUNT: so many empty lines
 }
 
 loop() { # TURNS: a loop that a LIMIT ERROR ends
-  printf '∇MAIN;N;X;Y;T\nN←%s\nX←Y←1\nL:T←Y-X\nY←X\nX←T\nN←N+1\n→L\n∇\n' "$((greatest - $1))"
+  printf '∇MAIN;N;X;Y;T\nN←%s\nX←Y←1\nL:T←X-Y\nY←X\nX←T\nN←N+1\n→L\n∇\n' "$((greatest - $1))"
 }
 
 fib() { # N: fib of N, N at most 40
@@ -25,10 +25,10 @@ fib() { # N: fib of N, N at most 40
 }
 
 gcd() { # TURNS: gcd of 36 and 15 again and again, until a LIMIT ERROR
-  printf '∇MAIN;N;S\nN←%s\nS←0\nL:S←36 GCD 15+S-S\nN←N+1\n→L\n∇\n∇R←A GCD B\nL:R←A\n→50+2×A-B\n' "$((greatest - $1))"
-  empty 45
-  printf 'B←B-A\n→L\n→0\n'
-  empty 69
+  printf '∇MAIN;N;S\nN←%s\nS←0\nL:S←36 GCD 15+S-S\nN←N+1\n→L\n∇\n∇R←A GCD B\nL:→50+2×A-B\n' "$((greatest - $1))"
+  empty 46
+  printf 'B←B-A\n→L\nR←A\n→0\n'
+  empty 68
   printf 'A←A-B\n→L\n∇\n'
 }
 
@@ -49,7 +49,7 @@ loop_by_hand() {
   cat <<C
 int main(void) {
   int64_t n = $((greatest - $1))LL, x = 1, y = 1;
-  for (;;) { int64_t t = sub(y, x); y = x; x = t; n = add(n, 1); }
+  for (;;) { int64_t t = sub(x, y); y = x; x = t; n = add(n, 1); }
 }
 C
 }

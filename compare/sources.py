@@ -57,9 +57,14 @@ class Sources:
     def line(self):
         label = self.pick(["", "", "", "", "L:", "A:", "X: ", "F:"])
         comment = self.pick(["", "", "", "⍝ c", " ⍝ ' ∇"])
-        words = "".join(self.pick(SYMBOLS + NAMES + [self.number(), " ", "'"]) for _ in range(self.random.randint(1, 7)))
-        kinds = [self.sum(5), self.sum(3), self.sum(2), self.value(4), self.value(3), self.value(2), "→" + self.value(2), "", self.pick(ODD), words]
-        return label + self.pick(kinds) + comment
+        kinds = [
+            lambda: self.sum(5), lambda: self.sum(3), lambda: self.sum(2), lambda: self.value(4), lambda: self.value(3),
+            lambda: self.value(2), lambda: "→" + self.value(2), lambda: "", lambda: self.pick(ODD), self.words,
+        ]
+        return label + self.pick(kinds)() + comment
+
+    def words(self):
+        return "".join(self.pick(SYMBOLS + NAMES + [self.number(), " ", "'"]) for _ in range(self.random.randint(1, 7)))
 
     def header(self):
         f = self.pick(["F", "G", "H", "MAIN", "X"])
@@ -147,13 +152,12 @@ class Sources:
 
     def scalar_line(self, variables, labels, calls):
         value = self.scalar(self.pick([1, 2, 3, 4]), variables, labels[:1], calls)
-        name, label = self.pick(variables), self.pick(labels + ["0"])
+        name, label = self.pick(variables), self.pick(labels * 3 + ["0"])
         f, count = self.pick(calls)
-        return self.pick([
-            name + "←" + value, name + "←" + value, name + "←" + name + self.pick("-+") + "1", value, value, "",
-            "→" + label, "→" + label + "×" + name, "→" + label + "+" + name, "→" + str(self.random.randint(0, 7)), "→" + value,
-            self.pick(["1 ", "X "]) * (count == 2) + f + self.pick([" 2", " X", " " + value]) * (count > 0),
-        ])
+        call = self.pick(["1 ", "X "]) * (count == 2) + f + self.pick([" 2", " X", " " + value]) * (count > 0)
+        assigned = name + "←" + self.pick([value, value, name + self.pick("-+") + "1"])
+        branch = "→" + self.pick([label, label, label + "×" + name, label + "+" + name, str(self.random.randint(0, 9)), value])
+        return self.pick([assigned] * 3 + [value] * 4 + [call] * 2 + [branch] * 2 + [""])
 
     def scalar_function(self, f, count, result, calls):
         local = [f + x for x in self.random.sample("XYZ", self.pick([0, 0, 1, 2]))]
@@ -161,7 +165,7 @@ class Sources:
         variables = ["X", "Y"] + local + ["A", "B"][2 - count :] + ["R"] * result
         if self.likely(0.02):
             variables += [self.pick(["Z", "FX", f + "L"])]
-        first = [x + "←" + self.number() for x in (["X", "Y"] if f == "MAIN" else []) + local + ["R"] * result if self.likely(0.8)]
+        first = [x + "←" + self.number() for x in (["X", "Y"] if f == "MAIN" else []) + local + ["R"] * result if self.likely(0.93)]
         body = [self.scalar_line(variables, labels, calls) for _ in range(self.random.randint(1, 6))]
         if result and self.likely(0.7):
             body.append("R←" + self.scalar(2, variables, [], calls))

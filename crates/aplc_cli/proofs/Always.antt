@@ -14,21 +14,26 @@ use Rattle.aplc_names.specs.Programs.{IsClean}
 use Rattle.aplc_names.specs.Clashes as names
 use Rattle.aplc_names.proofs.Decided.{clean_or_first}
 use Rattle.aplc_infer.specs.Families.{IsWellTyped, StandsFirst}
+use Rattle.aplc_infer.specs.Shown.{IsInferred}
 use Rattle.aplc_infer.proofs.Existing as infer
-use Rattle.aplc_cli.specs.Later.{later, least}
-use Rattle.aplc_cli.specs.Sources.{source_limit, Spells, IsSource, IsRefusedSource, too_long, in_tokens, in_program, in_names, in_facts, not_built}
+use Rattle.aplc_gen.specs.Unbuilt.{FactList, first_place}
+use Rattle.aplc_cli.specs.Sources.{source_limit, Spells, IsUnbuiltAt, IsSource, IsRefusedSource, too_long, in_tokens, in_program, in_names, in_facts, not_built}
+use Rattle.aplc_cli.proofs.Facts.{has_facts}
 use Rattle.aplc_cli.proofs.Places.{order}
 
 abbrev Verdict : List ℕ → Type 0
 Verdict file = ((p : Program) × IsSource file p) ⊎ ((r : Refusal) × IsRefusedSource file r)
 
 module _ (file : List ℕ) where
-  built : (p : Program) → Spells file p → IsClean p → IsWellTyped p → (o : Option ℕ) → least (later p) ≡ o → Verdict file
+  built : (p : Program) → Spells file p → IsClean p → IsWellTyped p → (o : Option ℕ) → IsUnbuiltAt p o → Verdict file
   built p said clean well None e = inl (p, record { spells = said; clean = clean; typed = well; built = e })
   built p said clean well (Some place) e = inr (_, not_built said clean well e)
 
+  inferred : (p : Program) → Spells file p → IsClean p → IsWellTyped p → (facts : FactList) × IsInferred p facts → Verdict file
+  inferred p said clean well h = built p said clean well (first_place p h.0) (record { facts = h.0; inferred = h.1; first = refl })
+
   typed : (p : Program) → Spells file p → IsClean p → IsWellTyped p ⊎ ((r : Refusal) × StandsFirst p r) → Verdict file
-  typed p said clean (inl well) = built p said clean well (least (later p)) refl
+  typed p said clean (inl well) = inferred p said clean well (has_facts p well)
   typed p said clean (inr h) = inr (h.0, in_facts said clean h.1)
 
   resolved : (p : Program) → Spells file p → IsClean p ⊎ ((r : Refusal) × IsFirst (names.Stands p) r) → Verdict file

@@ -1,51 +1,52 @@
--- Places of what is not built, computed.
-use Rattle.std.proofs.Common.{◌≡◌, ◌∙◌, ap, ℕ, [], ◌∷◌, ◌++◌, Some, None}
+-- Places of what is not built, computed over trees and facts.
+use Rattle.std.proofs.Common.{◌≡◌, refl, ℕ, [], ◌∷◌, None, Some}
 use Rattle.std.specs.Prelude.{pos}
 use Rattle.aplc_scalar.specs.declared.function.ScalarFn.TheVariants as function
-use Rattle.aplc_syntax.specs.declared.tree.Node.{Node}
-use Rattle.aplc_syntax.specs.declared.tree.Form.TheVariants as v
-use Rattle.aplc_syntax.specs.declared.tree.Primitive.{Primitive}
 use Rattle.aplc_syntax.specs.declared.tree.Primitive.TheVariants as pr
-use Rattle.aplc_syntax.specs.declared.tree.Statement.TheVariants as st
-use Rattle.aplc_syntax.specs.Trees.{node}
-use Rattle.aplc_cli.specs.Later.{is_built, unless, least, later_in, statement_later}
-use Rattle.aplc_cli.proofs.Unbuilt.{later_node, later_Numbers, later_Dyad}
+use Rattle.aplc_syntax.specs.PlainTrees.{Tree, Numbers, Name, Mono, Dyad, Assign, Show, Call, absent, given}
+use Rattle.aplc_infer.specs.declared.fact.FactKind.TheVariants.{Num}
+use Rattle.aplc_infer.specs.declared.facts.Fact.{Fact}
+use Rattle.aplc_gen.specs.Unbuilt.{FactList, unbuilt, least}
 
-abbrev one : ℕ → Node
-one p = node p (v.Numbers (pos 7 ∷ []))
+abbrev one : ℕ → Tree
+one p = Numbers 0 p (pos 7 ∷ [])
 
-abbrev vector : ℕ → Node
-vector p = node p (v.Numbers (pos 1 ∷ pos 2 ∷ []))
+abbrev vector : ℕ → Tree
+vector p = Numbers 0 p (pos 1 ∷ pos 2 ∷ [])
 
-one_is : (p : ℕ) → later_in (one p) ≡ []
-one_is p = later_node (one p) ∙ later_Numbers (pos 7 ∷ []) p
-
-vector_is : (p : ℕ) → later_in (vector p) ≡ p ∷ []
-vector_is p = later_node (vector p) ∙ later_Numbers (pos 1 ∷ pos 2 ∷ []) p
-
-two_are : (p : ℕ) (g : Primitive) (a b : Node) → later_in (node p (v.Dyad g a b)) ≡ unless (is_built g) p ++ (later_in a ++ later_in b)
-two_are p g a b = later_node (node p (v.Dyad g a b)) ∙ later_Dyad g a b p
+-- node 0 has no fact, node 1 is a number of rank 0, node 2 a vector
+abbrev facts : FactList
+facts = None ∷ Some record { kind = Num; rank = Some 0; lengths = [] } ∷ Some record { kind = Num; rank = Some 1; lengths = None ∷ [] } ∷ []
 
 -- `1 2⍴7` in the first line of MAIN: the literal stands before the function
-abbrev shape : Node
-shape = node 11 (v.Dyad pr.Shape (vector 8) (one 14))
+shape_is : least (unbuilt facts (Dyad 0 11 pr.Shape (vector 8) (one 14))) ≡ Some 8
+shape_is = refl
 
-shape_is : later_in shape ≡ 11 ∷ 8 ∷ []
-shape_is =
-    two_are 11 pr.Shape (vector 8) (one 14)
-    ∙ ap (λ a. 11 ∷ (a ++ later_in (one 14))) (vector_is 8)
-    ∙ ap (λ b. 11 ∷ 8 ∷ b) (one_is 14)
+-- `7-7` is built, and so is `-7`
+difference_is : least (unbuilt facts (Dyad 0 9 (pr.Scalar function.Sub) (one 8) (one 10))) ≡ None
+difference_is = refl
 
-first_of_shape : least (later_in shape) ≡ Some 8
-first_of_shape = ap least shape_is
+negative_is : least (unbuilt facts (Mono 0 8 (pr.Scalar function.Sub) (one 9))) ≡ None
+negative_is = refl
 
--- `7-7` is built
-difference_is : least (later_in (node 9 (v.Dyad (pr.Scalar function.Sub) (one 8) (one 10)))) ≡ None
-difference_is =
-    ap least (two_are 9 (pr.Scalar function.Sub) (one 8) (one 10))
-    ∙ ap (λ a. least (a ++ later_in (one 10))) (one_is 8)
-    ∙ ap least (one_is 10)
+-- `×7` is not
+sign_is : least (unbuilt facts (Mono 0 8 (pr.Scalar function.Mul) (one 9))) ≡ Some 8
+sign_is = refl
 
--- a branch has the place of its arrow
-branch_is : least (statement_later (st.Branch 8 (one 11))) ≡ Some 8
-branch_is = ap (λ b. least (8 ∷ b)) (one_is 11)
+-- a name of a number is built, and one of a vector is not; `A←A F A` reads it twice
+scalar_is : least (unbuilt facts (Assign 0 8 3 (Call 0 12 4 (given (Name 1 10 3)) (given (Name 1 14 3))))) ≡ None
+scalar_is = refl
+
+vector_read : least (unbuilt facts (Assign 0 8 3 (Call 0 12 4 (given (Name 1 10 3)) (given (Name 2 14 3))))) ≡ Some 14
+vector_read = refl
+
+-- so is a name that is never read, and a call without arguments
+never_read : least (unbuilt facts (Name 0 8 3)) ≡ None
+never_read = refl
+
+call_is : least (unbuilt facts (Call 0 8 4 absent absent)) ≡ None
+call_is = refl
+
+-- `⎕←7` is not built
+shown_is : least (unbuilt facts (Show 0 8 (one 10))) ≡ Some 8
+shown_is = refl

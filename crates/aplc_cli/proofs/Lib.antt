@@ -7,6 +7,7 @@ mod Lexed
 mod Places
 mod Stages
 pub mod Texts
+pub mod Facts
 pub mod Unbuilt
 mod RunEnds
 pub mod Verdicts

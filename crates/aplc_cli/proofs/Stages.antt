@@ -1,7 +1,6 @@
 -- From the stages to what a file is compiled to.
-use Rattle.std.proofs.Common.{◌≡◌, ℕ, ◌≤◌, List, [], ◌∷◌, length, Option, None, Some, Bool, true, false, cond, ◌||◌, refl, ap, sym, subst, ◌∙◌}
-use Rattle.std.specs.Prelude.{is_some, find, map, Result, Ok, Err, IfOk, IfErr}
-use Rattle.std.specs.List.{list_any}
+use Rattle.std.proofs.Common.{◌≡◌, ℕ, ◌≤◌, List, length, None, Some, sym, subst}
+use Rattle.std.specs.Prelude.{Result, Ok, Err, IfOk, IfErr}
 use Rattle.aplc_lex.specs.Tokens.{refusal, AreTokens}
 use Rattle.aplc_lex.specs.Tokens as lex
 use Rattle.aplc_lex.specs.declared.token.Token.{Token}
@@ -11,52 +10,22 @@ use Rattle.aplc_lex.specs.declared.token.Stop.TheVariants as lex_stop
 use Rattle.aplc_syntax.specs.Programs.{IsProgramOf}
 use Rattle.aplc_syntax.specs.Refusals as syntax
 use Rattle.aplc_names.specs.Clashes as names
-use Rattle.aplc_syntax.specs.declared.tree.Function.{Function}
 use Rattle.aplc_syntax.specs.declared.tree.Program.{Program}
-use Rattle.aplc_names.specs.Outlines.{outline, outlines}
-use Rattle.aplc_names.specs.Clashes.{no_main, main_place, is_start, IsMainless, mainless}
 use Rattle.aplc_names.specs.Programs.{IsClean}
 use Rattle.aplc_names.specs.PlainPrograms.{plain}
 use Rattle.aplc_infer.specs.Families.{IsWellTyped}
+use Rattle.aplc_infer.specs.Shown.{IsInferred}
 use Rattle.aplc_infer.specs.Stopped.{SaysTyping}
 use Rattle.aplc_names.specs.States.{Marking}
-use Rattle.aplc_names.specs.Sums.{tasks_in, main_function, main_tasks}
 use Rattle.aplc_gen.specs.Shown.{source_behaviour}
 use Rattle.aplc_cprof.specs.declared.syntax.CProgram.{CProgram}
 use Rattle.aplc_cprof.specs.Text.{program_text}
 use Rattle.aplc_cprof.specs.WellFormed.{IsWellFormed}
 use Rattle.aplc_cprof.specs.Behaviour.{behaviour, Alike}
-use Rattle.aplc_cli.specs.Later.{later, least, has_tasks}
-use Rattle.aplc_cli.specs.Sources.{Spells, IsSource, IsRefusedSource, in_tokens, in_program, in_names, in_facts, not_built}
+use Rattle.aplc_gen.specs.Unbuilt.{FactList, first_place}
+use Rattle.aplc_cli.specs.Sources.{Spells, IsUnbuiltAt, IsSource, IsRefusedSource, in_tokens, in_program, in_names, in_facts, not_built}
 use Rattle.aplc_cli.specs.Call.{RefusesSource}
 use Rattle.aplc_cli.specs.Compiled.{Behaves, IsCompiled}
-
--- ---- MAIN is there
-
-any_found : (ns : List (List ℕ)) (fs : List Function) → list_any (is_start ns) (map outline fs) ≡ true → is_some (find (λ (f : Function). is_start ns (outline f)) fs) ≡ true
-any_found ns [] h = absurd (cc)
-any_found ns (f ∷ fs) h = by_first (is_start ns (outline f)) refl (any_found ns fs)
-  where
-    by_first : (b : Bool) → is_start ns (outline f) ≡ b → (list_any (is_start ns) (map outline fs) ≡ true → is_some (find (λ (g : Function). is_start ns (outline g)) fs) ≡ true) → is_some (find (λ (g : Function). is_start ns (outline g)) (f ∷ fs)) ≡ true
-    by_first true e later = ap (λ b. is_some (cond b (Some f) (find (λ (g : Function). is_start ns (outline g)) fs))) e
-    by_first false e later =
-        ap (λ b. is_some (cond b (Some f) (find (λ (g : Function). is_start ns (outline g)) fs))) e
-        ∙ later (sym (ap (λ b. b || list_any (is_start ns) (map outline fs)) e) ∙ h)
-
-main_found : (p : Program) → IsClean p → is_some (main_function p) ≡ true
-main_found p clean = by_any (list_any (is_start p.names) (outlines p)) refl
-  where
-    by_any : (b : Bool) → list_any (is_start p.names) (outlines p) ≡ b → is_some (main_function p) ≡ true
-    by_any true e = any_found p.names p.functions e
-    by_any false e = absurd (clean (refusal no_main (main_place p.names (outlines p))) (mainless (record { none = e; is = refl })))
-
-found_tasks : (f : Option Function) → is_some f ≡ true → has_tasks f ≡ true → is_some (tasks_in f) ≡ true
-found_tasks None e h = absurd (cc)
-found_tasks (Some g) e h = h
-
--- a program that is built has tasks
-pub main_has_tasks : (p : Program) → IsClean p → has_tasks (main_function p) ≡ true → is_some (main_tasks p) ≡ true
-main_has_tasks p clean h = found_tasks (main_function p) (main_found p clean) h
 
 -- ---- What is made
 
@@ -107,8 +76,9 @@ pub stopped : (file : List ℕ) (s : LexStop) (r : Refusal) → s ≡ lex_stop.R
 stopped file (lex_stop.Refused q) r e h = subst (λ x. IsRefusedSource file x) (let same : q ≡ r = cc in same) h
 stopped file lex_stop.Memory r e h = absurd (cc)
 
-pub unbuilt : (file : List ℕ) (p : Program) (place : ℕ) → Spells file p → IsClean p → IsWellTyped p → Some place ≡ least (later p) → IsRefusedSource file (refusal 90 place)
-unbuilt file p place said clean typed e = not_built said clean typed (sym e)
+module _ (file : List ℕ) (p : Program) (facts : FactList) (said : Spells file p) (clean : IsClean p) (typed_so : IsWellTyped p) (inferred : IsInferred p facts) where
+  pub unbuilt : (place : ℕ) → Some place ≡ first_place p facts → IsRefusedSource file (refusal 90 place)
+  unbuilt place e = not_built said clean typed_so (record { facts = facts; inferred = inferred; first = sym e })
 
-pub source : (file : List ℕ) (p : Program) → Spells file p → IsClean p → IsWellTyped p → None ≡ least (later p) → IsSource file p
-source file p said clean typed e = record { spells = said; clean = clean; typed = typed; built = sym e }
+  pub source : None ≡ first_place p facts → IsSource file p
+  source e = record { spells = said; clean = clean; typed = typed_so; built = record { facts = facts; inferred = inferred; first = sym e } }

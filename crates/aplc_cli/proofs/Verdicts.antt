@@ -1,5 +1,5 @@
 -- A file is one source, or has one refusal.
-use Rattle.std.proofs.Common.{◌≡◌, inl, inr, ℕ, List, None, Some, refl, ap, subst, ◌∙◌, arith}
+use Rattle.std.proofs.Common.{◌≡◌, inl, inr, ℕ, List, Option, None, Some, refl, ap, subst, ◌∙◌, arith}
 use Rattle.std.specs.Prelude.{IsUtf8}
 use Rattle.std.specs.Str.{IsValidUpTo}
 use Rattle.std.proofs.lemmas.Str.{utf8_valid_len-IsUtf8, utf8_valid_len-IsValidUpTo}
@@ -18,8 +18,8 @@ use Rattle.aplc_names.specs.Programs.{IsClean}
 use Rattle.aplc_names.specs.Clashes as names
 use Rattle.aplc_infer.specs.Families.{IsWellTyped, StandsFirst}
 use Rattle.aplc_infer.proofs.Verdicts as facts
-use Rattle.aplc_cli.specs.Later.{later, least}
-use Rattle.aplc_cli.specs.Sources.{Spells, IsSource, IsRefusedSource, too_long, in_tokens, in_program, in_names, in_facts, not_built}
+use Rattle.aplc_cli.specs.Sources.{Spells, IsUnbuiltAt, IsSource, IsRefusedSource, too_long, in_tokens, in_program, in_names, in_facts, not_built}
+use Rattle.aplc_cli.proofs.Unbuilt.{place_once}
 
 -- ---- Tokens
 
@@ -77,8 +77,10 @@ module _ (file : List ℕ) where
   pub one_source : (p q : Program) → IsSource file p → IsSource file q → p ≡ q
   one_source p q a b = spells_once p q a.spells b.spells
 
-  none_or_some : (p q : Program) (place : ℕ) → Spells file p → Spells file q → least (later p) ≡ None → least (later q) ≡ Some place → ⊥
-  none_or_some p q place a b h k = let e : least (later p) ≡ least (later q) = ap (λ x. least (later x)) (spells_once p q a b) in cc
+  none_or_some : (p q : Program) (place : ℕ) → Spells file p → Spells file q → IsUnbuiltAt p None → IsUnbuiltAt q (Some place) → ⊥
+  none_or_some p q place a b h k =
+      let e : (let o : Option ℕ = None in o) ≡ Some place = place_once p None (Some place) h (subst (λ x. IsUnbuiltAt x (Some place)) (spells_once q p b a) k) in
+      cc
 
   pub not_both : (p : Program) (r : Refusal) → IsSource file p → IsRefusedSource file r → ⊥
   not_both p _ s (too_long h) = let short = s.spells.short in omega arith
@@ -90,9 +92,9 @@ module _ (file : List ℕ) where
 
   -- ---- Two refusals
 
-  places_once : (p q : Program) (m n : ℕ) → Spells file p → Spells file q → least (later p) ≡ Some m → least (later q) ≡ Some n → refusal 90 m ≡ refusal 90 n
+  places_once : (p q : Program) (m n : ℕ) → Spells file p → Spells file q → IsUnbuiltAt p (Some m) → IsUnbuiltAt q (Some n) → refusal 90 m ≡ refusal 90 n
   places_once p q m n a b h k =
-      let e : least (later p) ≡ least (later q) = ap (λ x. least (later x)) (spells_once p q a b) in
+      let e : Some m ≡ Some n = place_once p (Some m) (Some n) h (subst (λ x. IsUnbuiltAt x (Some n)) (spells_once q p b a) k) in
       let same : m ≡ n = cc in
       ap (refusal 90) same
 

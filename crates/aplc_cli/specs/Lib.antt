@@ -1,5 +1,4 @@
 pub mod Digits
-pub mod Later
 pub mod Sources
 pub mod Compiled
 pub mod Words

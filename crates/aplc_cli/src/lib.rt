@@ -6,7 +6,6 @@ mod carrying;
 mod compiling;
 mod digits;
 mod entering;
-mod later;
 mod laws;
 mod reading;
 mod report;

@@ -14,6 +14,7 @@ pub mod FormedSteps
 pub mod FormedTrees
 pub mod Frames
 pub mod Functions
+pub mod Generated
 pub mod Heads
 pub mod Induction
 pub mod Knowing

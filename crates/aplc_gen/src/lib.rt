@@ -6,6 +6,7 @@ mod expressions;
 mod flow;
 mod frame;
 mod generating;
+mod generator;
 mod known;
 mod layout;
 mod lead;
@@ -18,4 +19,5 @@ mod terms;
 mod unbuilt;
 mod widths;
 
+pub use generator::generate;
 pub use unbuilt::first_unbuilt;

@@ -23,7 +23,7 @@ use Rattle.aplc_core.proofs.Statements.{marks_same, line_is_statement}
 some_same : {A : Type 0} (x y : A) → Some x ≡ Some y → x ≡ y
 some_same x y e = ap (λ o. unwrap_or o x) e
 
-at_place : {A : Type 0} (P : A → Type 0) (xs : List A) → AllByRecursion P xs → (i : ℕ) (x : A) → slice_get xs i ≡ Some x → P x
+pub at_place : {A : Type 0} (P : A → Type 0) (xs : List A) → AllByRecursion P xs → (i : ℕ) (x : A) → slice_get xs i ≡ Some x → P x
 at_place P [] h i x e = absurd cc
 at_place P (y ∷ ys) h zero x e = subst P (some_same y x e) h.0
 at_place P (y ∷ ys) h (suc i) x e = at_place P ys h.1 i x e

@@ -20,6 +20,7 @@ mod Passed
 mod Programs
 mod ResolvedRuns
 mod Room
+mod SaidLines
 mod Saying
 mod Slots
 mod Statements

@@ -6,3 +6,4 @@ pub mod Structure
 pub mod Passes
 pub mod Stands
 pub mod CorePrograms
+pub mod StepLaws

@@ -8,6 +8,9 @@ ghost use Rattle.aplc_names.specs.PlainPrograms.{Action};
 ghost use Rattle.aplc_core.specs.CoreLaws.{action_ids, IsNumbered};
 ghost use Rattle.aplc_core.specs.Lowering.{lowered};
 ghost use Rattle.aplc_core.specs.Structure.{order_of, Says};
+ghost use Rattle.aplc_core.specs.StepLaws.{SaysStatements};
+
+use aplc_names::Bound;
 
 /// The steps of a statement are its nodes in eager order, each with its own arguments: in a tree under its own number, or
 /// as the result of a call or of an input. A slot names the node that it reads. The value of an assignment stands as a read
@@ -25,3 +28,10 @@ pub fn order_has_each_node()
 pub fn no_node_twice()
     ensures { (x : Action) → IsNumbered x → IsDistinct nat_eq (order_of x) }
 {}
+
+/// So it is with the lines of every resolved program.
+pub fn bound_says_statements(bound: &Bound)
+    ensures { SaysStatements bound.now }
+{
+    let _program = bound.program();
+}

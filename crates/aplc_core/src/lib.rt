@@ -12,6 +12,8 @@ mod walk;
 mod written;
 
 pub use laws::{bound_keeps_runs, keeps_runs, lowered_keeps_runs};
-pub use laws_of_steps::{no_node_twice, order_has_each_node, steps_say_statements};
+pub use laws_of_steps::{
+    bound_says_statements, no_node_twice, order_has_each_node, steps_say_statements,
+};
 pub use program::{CoreProgram, lower};
 pub use step::{SlotId, Step, Tree};

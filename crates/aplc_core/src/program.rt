@@ -8,10 +8,12 @@ ghost use Rattle.aplc_infer.specs.Shown.{fact_at, IsInferred};
 ghost use Rattle.aplc_core.specs.PlainSteps.{effect_of};
 ghost use Rattle.aplc_names.specs.PlainPrograms.{plain};
 ghost use Rattle.aplc_core.specs.CoreLaws.{KeepsRuns};
+ghost use Rattle.aplc_core.specs.StepLaws.{SaysStatements};
 ghost use Rattle.aplc_core.specs.CoreRuns.{steps_at};
 ghost use Rattle.aplc_core.specs.CorePrograms.{line_steps, function_effects};
 
 use crate::laws::bound_keeps_runs;
+use crate::laws_of_steps::bound_says_statements;
 use crate::lines::lower_functions;
 use crate::step::Step;
 use aplc_infer::{Fact, Facts};
@@ -87,15 +89,17 @@ impl CoreProgram {
 }
 
 /// A program whose statements are cut at their effects, with the facts of its nodes. The facts are copied, so that the
-/// program stands alone. Its steps run as the program does.
+/// program stands alone. Its steps run as the program does, and those of a line say its statement.
 pub fn lower(alloc: Global, bound: Bound, facts: &Facts) -> Result<CoreProgram, AllocError>
     requires typed { IsWellTyped bound }
     requires inferred { IsInferred bound facts.now }
     ensures program { IfOk result (λ c. c.program ≡ bound) }
     ensures facts { IfOk result (λ c. c.facts ≡ facts.now) }
     ensures runs { IfOk result (λ c. KeepsRuns (plain c.program)) }
+    ensures says { IfOk result (λ c. SaysStatements c.program) }
 {
     bound_keeps_runs(&bound);
+    bound_says_statements(&bound);
     let steps = lower_functions(alloc, bound.program().functions.as_slice())?;
     let facts = facts.copy(alloc)?;
     Ok(CoreProgram {

@@ -1,5 +1,5 @@
 -- Statements that are added to the innermost block.
-use Rattle.std.proofs.Common.{◌≡◌, ◌∙◌, ap, sym, refl, ℕ, length, List, [], ◌∷◌, ◌++◌, append_assoc, append-nil, Bool, true, false, Option, Some, None, ◌+◌, ◌<◌, ◌≤◌, ◌^◌, nat_le, ◌&&◌, arith}
+use Rattle.std.proofs.Common.{◌≡◌, ◌∙◌, ap, sym, refl, ℕ, length, List, [], ◌∷◌, ◌++◌, append_assoc, append-nil, Bool, true, false, Option, ◌+◌, ◌<◌, ◌≤◌, ◌^◌, nat_le, ◌&&◌, arith}
 use Rattle.std.proofs.lemmas.Bool.Decides.{nat_tests}
 use Rattle.aplc_cprof.specs.declared.syntax.CStmt.{CStmt}
 use Rattle.aplc_cprof.specs.declared.syntax.CStmt.TheVariants as stmt
@@ -70,4 +70,3 @@ enter_added g right left b b1 b2 b3 b4 b5 er el e1 e2 e3 e4 e5 =
     (added_after clear takes b2 b3 b5 e3
     (added_after (take_code g right_passed (the_routine g).header.right) (take_code g left_passed (the_routine g).header.left) b3 b4 b5
     (e4 ∙ ap (λ o. added (take_code g right_passed o) b3) er) (e5 ∙ ap (λ o. added (take_code g left_passed o) b4) el))))
-

@@ -1,5 +1,5 @@
 -- What stands of an accepted program: its layout serves, and its code is well formed and behaves as its source.
-use Rattle.std.proofs.Common.{◌≡◌, ◌≤◌, ◌∙◌, ap, sym, subst, ℕ, List, length, Option, None, true}
+use Rattle.std.proofs.Common.{◌≡◌, ◌≤◌, ◌∙◌, ap, sym, subst, ℕ, List, length, None, true}
 use Rattle.std.proofs.Math.Path.{fun_ext}
 use Rattle.std.specs.Prelude.{Result, Ok, Err}
 use Rattle.std.specs.Result.{IfOk}
@@ -13,7 +13,6 @@ use Rattle.aplc_names.specs.PlainPrograms.{PlainProgram, plain}
 use Rattle.aplc_names.specs.States.{Marking}
 use Rattle.aplc_core.specs.CoreLaws.{KeepsRuns}
 use Rattle.aplc_core.specs.CorePrograms.{Core}
-use Rattle.aplc_core.specs.CoreRuns.{PlainCore}
 use Rattle.aplc_core.specs.Lowering.{lowered_program}
 use Rattle.aplc_gen.specs.Emitted.{program_code}
 use Rattle.aplc_gen.specs.Layouts.{Layout}

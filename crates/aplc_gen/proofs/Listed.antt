@@ -7,8 +7,8 @@ use Rattle.aplc_names.specs.States.{is_among}
 use Rattle.aplc_core.specs.CorePrograms.{Core}
 use Rattle.aplc_core.specs.CoreRuns.{PlainCore}
 use Rattle.aplc_gen.specs.Layouts.{Frame, Layout, frame_of, no_frame}
-use Rattle.aplc_gen.specs.Emitted.{called_code, function_code, site_at, program_code}
-use Rattle.aplc_gen.specs.Writing.{FitsProgram, lowered_core}
+use Rattle.aplc_gen.specs.Emitted.{called_code, function_code, site_at}
+use Rattle.aplc_gen.specs.Writing.{FitsProgram}
 
 -- a frame that is there
 pub frame_is : (y : Layout) (j : ℕ) (o : Option Frame) (f : Frame) → o ≡ slice_get y.frames j → o ≡ Some f → f ≡ frame_of y j

@@ -1,19 +1,18 @@
 -- A function of a program, and what its lowered form has of it.
-use Rattle.std.proofs.Common.{◌≡◌, ◌∙◌, sym, ap, refl, ℕ, zero, suc, ◌+◌, List, [], ◌∷◌, length, map, Option, Some, None, Bool, true, false, slice_get}
-use Rattle.std.specs.Prelude.{unwrap_or, option_map, pos}
+use Rattle.std.proofs.Common.{◌≡◌, ◌∙◌, sym, ap, refl, ℕ, zero, suc, ◌+◌, List, [], ◌∷◌, length, map, Option, Some, None, slice_get}
+use Rattle.std.specs.Prelude.{unwrap_or, option_map}
 use Rattle.std.specs.Option.{option_map_or}
-use Rattle.aplc_syntax.specs.declared.tree.Line.{Line}
 use Rattle.aplc_syntax.specs.declared.tree.Function.{Function}
 use Rattle.aplc_syntax.specs.declared.tree.Program.{Program}
 use Rattle.aplc_names.specs.declared.scope.Scope.{Scope}
 use Rattle.aplc_names.specs.declared.scope.Scope.TheVariants as scope
-use Rattle.aplc_names.specs.PlainPrograms.{plain, routine_of, name_number, line_action, Routine, no_routine, Action}
+use Rattle.aplc_names.specs.PlainPrograms.{plain, routine_of, line_action}
 use Rattle.aplc_names.specs.Scopes.{scope_in, scope_of, IsScope}
 use Rattle.aplc_core.specs.PlainSteps.{Effect}
 use Rattle.aplc_core.specs.CoreRuns.{CoreRoutine, no_core, steps_at}
 use Rattle.aplc_core.specs.Lowering.{lowered, lowered_routine, lowered_program}
-use Rattle.aplc_core.specs.CorePrograms.{routine_steps, program_steps, line_steps}
-use Rattle.aplc_gen.specs.Layouts.{Layout, frame_of, routine_at}
+use Rattle.aplc_core.specs.CorePrograms.{routine_steps, line_steps}
+use Rattle.aplc_gen.specs.Layouts.{routine_at}
 use Rattle.aplc_gen.specs.Writing.{IsLineNumber}
 
 got : {A B : Type 0} (f : A → B) (xs : List A) (j : ℕ) (d : A) → unwrap_or (slice_get (map f xs) j) (f d) ≡ f (unwrap_or (slice_get xs j) d)

@@ -1,5 +1,5 @@
 -- The table of landings, from the last line to the first.
-use Rattle.std.proofs.Common.{◌≡◌, ◌∙◌, sym, ap, refl, subst, ℕ, suc, ◌+◌, ◌-◌, ◌<◌, ◌≤◌, List, length, get_or, replicate, arith}
+use Rattle.std.proofs.Common.{◌≡◌, ◌∙◌, ap, subst, ℕ, suc, ◌+◌, ◌-◌, ◌<◌, List, length, get_or, replicate, arith}
 use Rattle.aplc_core.specs.CoreRuns.{CoreRoutine}
 use Rattle.std.specs.Prelude.{Bool, nat_eq, ◌||◌}
 use Rattle.aplc_names.specs.States.{is_among}

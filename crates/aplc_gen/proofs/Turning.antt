@@ -1,11 +1,11 @@
 -- Where lines lead, and the lines to which branches lead.
-use Rattle.std.proofs.Common.{◌≡◌, ◌∙◌, sym, ap, refl, subst, ℕ, zero, suc, ◌+◌, ◌-◌, ◌<◌, ◌≤◌, List, [], ◌∷◌, ◌++◌, length, drop, get_or, set, replicate, Option, Some, None, Bool, true, false, nat_eq, ◌||◌, ◌⊎◌, inl, inr, ◌≢◌, arith, ℤ, pos, negsuc}
+use Rattle.std.proofs.Common.{◌≡◌, ◌∙◌, sym, ap, refl, subst, ℕ, zero, suc, ◌+◌, ◌<◌, ◌≤◌, List, [], ◌∷◌, length, drop, get_or, set, replicate, Bool, true, false, nat_eq, ◌||◌, ◌⊎◌, inl, inr, ◌≢◌, arith, ℤ, pos, negsuc}
 use Rattle.std.specs.Prelude.{int_lt, unsigned_abs, slice_get, unwrap_or, if◌then◌else◌}
 use Rattle.std.proofs.lemmas.List.{get_or-set_same, get_or-set_other}
 use Rattle.std.proofs.lemmas.Bool.Decides.{nat_tests}
 use Rattle.aplc_names.specs.States.{is_among}
 use Rattle.aplc_names.specs.Eager.{line_named}
-use Rattle.aplc_core.specs.PlainSteps.{Term, Effect, Keep, Store, StoreAt, Call, ReadText, ReadNums, Show, Branch}
+use Rattle.aplc_core.specs.PlainSteps.{Effect, Keep, Store, StoreAt, Call, ReadText, ReadNums, Show, Branch}
 use Rattle.aplc_core.specs.CoreRuns.{CoreRoutine, steps_at}
 use Rattle.aplc_gen.specs.Emitted.{Lead, out, to, computed, landing, lead_at, lead_of_line, lead, may_lead, step_leads, steps_lead, lines_lead, is_out, step_loops, steps_loop, lines_loop, is_entry, first_line}
 use Rattle.aplc_gen.specs.Flows.{landing_of, AreLandings, HasBehind, landing_by, Turns, no_turns, turned, step_turned, steps_turned, lines_turned}

@@ -1,9 +1,9 @@
 -- The widest of some trees.
-use Rattle.std.proofs.Common.{◌≡◌, ◌∙◌, sym, ap, refl, ℕ, ◌+◌, ◌<◌, ◌≤◌, ◌^◌, List, [], ◌∷◌, length, drop, max, true, arith}
+use Rattle.std.proofs.Common.{◌≡◌, ◌∙◌, sym, ap, ℕ, ◌+◌, ◌<◌, ◌≤◌, ◌^◌, List, [], length, drop, max, true, arith}
 use Rattle.std.specs.Prelude.{unwrap_or}
 use Rattle.aplc_core.specs.PlainSteps.{Term, Effect}
 use Rattle.aplc_core.specs.CoreRuns.{steps_at}
-use Rattle.aplc_gen.specs.Emitted.{width, step_width, steps_width, lines_width}
+use Rattle.aplc_gen.specs.Emitted.{width, steps_width, lines_width}
 use Rattle.aplc_gen.specs.Writing.{fits_term, fits_tree}
 use Rattle.aplc_gen.proofs.Adding.{and_left, and_right, le_of}
 use Rattle.aplc_gen.proofs.Turning.{line_next, drop_all}

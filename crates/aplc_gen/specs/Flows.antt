@@ -1,7 +1,7 @@
 -- Where the branches of a function lead, line by line.
-use Rattle.std.specs.Prelude.{◌≡◌, ℕ, zero, suc, ◌+◌, ◌<◌, List, [], ◌∷◌, Bool, true, false, drop, get_or, refl}
+use Rattle.std.specs.Prelude.{◌≡◌, ℕ, zero, suc, ◌<◌, List, [], ◌∷◌, Bool, true, false, drop, get_or, refl}
 use Rattle.std.specs.Coded.{Coded, code_by, coded×, coded_list, coded_ℕ, coded_bool}
-use Rattle.aplc_core.specs.PlainSteps.{Term, Effect, Keep, Store, StoreAt, Call, ReadText, ReadNums, Show, Branch}
+use Rattle.aplc_core.specs.PlainSteps.{Effect, Branch}
 use Rattle.aplc_core.specs.CoreRuns.{CoreRoutine}
 use Rattle.aplc_gen.specs.Emitted.{landing, lead}
 use Rattle.aplc_gen.specs.Emitted as emitted

@@ -7,13 +7,13 @@ ghost use Rattle.aplc_gen.specs.Layouts.{the_routine, the_frame, frame_of, routi
 ghost use Rattle.aplc_gen.specs.Emitted.{clear_code, take_code, enter_by, enter_code, leave_code, loop_code, run_code, body_code, function_code, called_code, program_code, site_at, lines_loop};
 ghost use Rattle.aplc_gen.specs.Writing.{added, site_of, slots_at, fits_lines, lowered_core, FitsProgram};
 
-use crate::passing::{LEFT, RIGHT, emit_count_first, emit_count_up, emit_leave};
 use crate::expressions::{block, emit_flag};
 use crate::flow::Flow;
 use crate::frame::Layout;
-use crate::statements::emit_go_to;
+use crate::passing::{LEFT, RIGHT, emit_count_first, emit_count_up, emit_leave};
 use crate::segments::{all_arms, emit_lines, first_known};
 use crate::site::Site;
+use crate::statements::emit_go_to;
 use crate::widths::lines_width;
 use aplc_core::CoreProgram;
 use aplc_cprof::{Builder, CExpr, CFunction, CProgram, CStmt, Int, List};

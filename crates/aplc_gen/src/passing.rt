@@ -70,10 +70,7 @@ fn emit_got(
         None => Ok(()),
         Some(slot) => {
             emit_result_guard(alloc, b, sure)?;
-            b.emit(CStmt::Set(
-                Int::Local(site.slot(slot)),
-                CExpr::Var(RESULT),
-            ))
+            b.emit(CStmt::Set(Int::Local(site.slot(slot)), CExpr::Var(RESULT)))
         }
     }
 }

@@ -219,7 +219,14 @@ impl<'a> Site<'a> {
     fn result_of(&self, function: usize) -> Option<u32>
         ensures { result ≡ (routine_at (lowered_core self.now.core) function).header.result }
     {
-        match self.core.bound().program().functions.as_slice().get(function) {
+        match self
+            .core
+            .bound()
+            .program()
+            .functions
+            .as_slice()
+            .get(function)
+        {
             None => None,
             Some(header) => number_of(header.result),
         }

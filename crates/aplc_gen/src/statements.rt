@@ -9,13 +9,13 @@ ghost use Rattle.aplc_gen.specs.Emitted.{computed, scope_at, operand, tree_code,
 ghost use Rattle.aplc_gen.specs.Writing.{added, site_of, slots_at, fits_tree, fits_step, fits_steps};
 ghost use Rattle.aplc_gen.specs.Flows.{lead_of, is_blank};
 
-use crate::passing::{emit_call, emit_leave};
 use crate::expressions::emit_flag;
 use crate::flow::Flow;
 use crate::known::Known;
 use crate::lead::Lead;
-use crate::terms::{emit_tree, operand};
+use crate::passing::{emit_call, emit_leave};
 use crate::site::Site;
+use crate::terms::{emit_tree, operand};
 use aplc_core::{Step, Tree};
 use aplc_cprof::{Builder, CExpr, CStmt, Int, List};
 use aplc_names::Scope;
@@ -70,10 +70,7 @@ fn emit_set(
 pub fn emit_go_to(b: &mut Builder, site: &Site, line: u32) -> Result<(), AllocError>
     ensures { OnOk result (b.new ≡ added (go_to (site_of site.now) line) b.old) }
 {
-    b.emit(CStmt::Set(
-        Int::Local(site.line_place()),
-        CExpr::Lit(i64::from(line)),
-    ))
+    b.emit(CStmt::Set(Int::Local(site.line_place()), CExpr::Lit(i64::from(line))))
 }
 
 /// The way to where a line leads.

@@ -57,12 +57,7 @@ fn name_operand(site: &Site, scope: Scope, name: NameId) -> CExpr
 
 /// Where the value of a tree stands, with variables from `free` on not in use.
 #[tactic(auto, using(aplc_core::proofs::TermForms::term_forms))]
-pub fn operand(
-    alloc: Global,
-    site: &Site,
-    free: u32,
-    tree: &Tree,
-) -> Result<CExpr, AllocError>
+pub fn operand(alloc: Global, site: &Site, free: u32, tree: &Tree) -> Result<CExpr, AllocError>
     requires { fits_term (slots_at site.now) (term_of tree.now) ≡ true }
     ensures { IfOk result (λ e. e ≡ operand (site_of site.now) free (term_of tree.now)) }
 {

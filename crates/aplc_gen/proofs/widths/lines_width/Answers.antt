@@ -20,6 +20,8 @@ loop-index-preserved c =
     let steps = (the_routine (site_of c.args.site.now)).steps in
     let inside : c.loop-index.index < length steps = omega (arith, c.loop-index-test.true, c.lines-index-end.ensures.lines) in
     let wider : c.max-most.result ≡ max c.loop-index.most c.steps_width.result = grind (arith, nat_tests, c.max-most.ensures) in
-    let most : c.max-most.result ≤ 2000 = grind (arith, c.max-most.ensures, c.steps_width.ensures.narrow, c.loop-index.invariant.1) in
-    (ap (λ k. max k (lines_width (drop (c.loop-index.index + 1) steps))) wider
-    ∙ one_line steps c.loop-index.index c.loop-index.most c.steps_width.result (map effect_of c.steps.result.now) (lines_width steps) inside c.steps.ensures c.steps_width.ensures.width c.loop-index.invariant.0, most)
+    let most : c.max-most.result ≤ 2000 = grind (arith, c.max-most.ensures, c.steps_width.ensures.narrow, c.loop-index.invariant.1) in (
+      ap (λ k. max k (lines_width (drop (c.loop-index.index + 1) steps))) wider
+          ∙ one_line steps c.loop-index.index c.loop-index.most c.steps_width.result (map effect_of c.steps.result.now) (lines_width steps) inside c.steps.ensures c.steps_width.ensures.width c.loop-index.invariant.0,
+      most,
+    )

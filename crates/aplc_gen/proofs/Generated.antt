@@ -16,18 +16,17 @@ use Rattle.aplc_core.specs.CorePrograms.{Core}
 use Rattle.aplc_core.specs.Lowering.{lowered_program}
 use Rattle.aplc_gen.specs.Emitted.{program_code}
 use Rattle.aplc_gen.specs.Layouts.{Layout}
-use Rattle.aplc_gen.specs.Made.{layout_of, is_modest}
+use Rattle.aplc_gen.specs.Made.{is_modest}
+use Rattle.aplc_gen.specs.Sparing.{spared}
 use Rattle.aplc_gen.specs.Shown.{core_behaviour, source_behaviour, run_shown}
 use Rattle.aplc_gen.specs.Sound.{is_sound}
 use Rattle.aplc_gen.specs.Unbuilt.{first_place}
 use Rattle.aplc_gen.specs.Writing.{FitsProgram, lowered_core}
 use Rattle.aplc_gen.proofs.Behaving.{program_alike}
 use Rattle.aplc_gen.proofs.FormedPrograms.{program_formed}
-use Rattle.aplc_gen.proofs.MadeCounts.{made_counts}
-use Rattle.aplc_gen.proofs.MadeFits.{made_fits}
-use Rattle.aplc_gen.proofs.MadeLaid.{made_laid}
 use Rattle.aplc_gen.proofs.ModestPrograms.{lowered_modest}
 use Rattle.aplc_gen.proofs.SoundPrograms.{lowered_sound}
+use Rattle.aplc_gen.proofs.SparedLaid.{spared_laid, spared_counts, spared_fits}
 
 -- what a lowered program of which all is built is
 pub record IsAccepted (c : Core) : Type 0 where
@@ -42,26 +41,30 @@ accepted c p same built parsed clean few short small fitting names named below =
   modest = ap (λ (q : Program). is_modest (lowered_program (plain q))) (sym same) ∙ lowered_modest p few small names below;
 }
 
-pub layout_fits : (c : Core) (y : Layout) → IsAccepted c → y ≡ layout_of (lowered_core c) → FitsProgram y c
-layout_fits c y h e = subst (λ (z : Layout). FitsProgram z c) (sym e) (made_fits c h.sound h.modest)
+-- the variables that are made for it, with whatever ranks of its functions
+abbrev pub IsMade : Core → Layout → Type 0
+IsMade c y = (ranks : List ℕ) × (y ≡ spared (lowered_core c) ranks)
 
-code_same : (c : Core) (y : Layout) (x : CProgram) → y ≡ layout_of (lowered_core c) → x ≡ program_code y (lowered_core c) → program_code (layout_of (lowered_core c)) (lowered_core c) ≡ x
-code_same c y x e is = sym (is ∙ ap (λ (z : Layout). program_code z (lowered_core c)) e)
+pub layout_fits : (c : Core) (y : Layout) → IsAccepted c → IsMade c y → FitsProgram y c
+layout_fits c y h (ranks, e) = subst (λ (z : Layout). FitsProgram z c) (sym e) (spared_fits c ranks h.sound h.modest)
 
-pub code_formed : (c : Core) (y : Layout) (x : CProgram) → IsAccepted c → y ≡ layout_of (lowered_core c) → x ≡ program_code y (lowered_core c) → IsWellFormed x
-code_formed c y x h e is =
+code_same : (c : Core) (y z : Layout) (x : CProgram) → y ≡ z → x ≡ program_code y (lowered_core c) → program_code z (lowered_core c) ≡ x
+code_same c y z x e is = sym (is ∙ ap (λ (w : Layout). program_code w (lowered_core c)) e)
+
+pub code_formed : (c : Core) (y : Layout) (x : CProgram) → IsAccepted c → IsMade c y → x ≡ program_code y (lowered_core c) → IsWellFormed x
+code_formed c y x h (ranks, e) is =
     let p = lowered_core c in
-    subst (λ (z : CProgram). IsWellFormed z) (code_same c y x e is) (program_formed (layout_of p) p h.sound (made_laid p h.sound h.modest) (made_counts p h.sound h.modest))
+    subst (λ (z : CProgram). IsWellFormed z) (code_same c y (spared p ranks) x e is) (program_formed (spared p ranks) p h.sound (spared_laid p ranks h.sound h.modest) (spared_counts p ranks h.sound h.modest))
 
 -- the core run is the eager run
 eagerly : (p : PlainProgram) → KeepsRuns p → (m : Marking) (input : List ℕ) (c : ℕ → Standing) → Alike (core_behaviour (lowered_program p) m input) c → Alike (source_behaviour p m input) c
 eagerly p keeps m input c alike = subst (λ (s : ℕ → Standing). Alike s c) (fun_ext (λ n. ap run_shown (keeps.runs m input n))) alike
 
-pub code_alike : (c : Core) (y : Layout) (x : CProgram) → IsAccepted c → KeepsRuns (plain c.program) → y ≡ layout_of (lowered_core c) → x ≡ program_code y (lowered_core c) → (m : Marking) (input : List ℕ) → Alike (source_behaviour (plain c.program) m input) (behaviour x input)
-code_alike c y x h keeps e is m input =
+pub code_alike : (c : Core) (y : Layout) (x : CProgram) → IsAccepted c → KeepsRuns (plain c.program) → IsMade c y → x ≡ program_code y (lowered_core c) → (m : Marking) (input : List ℕ) → Alike (source_behaviour (plain c.program) m input) (behaviour x input)
+code_alike c y x h keeps (ranks, e) is m input =
     let p = lowered_core c in
     eagerly (plain c.program) keeps m input (behaviour x input)
-    (subst (λ (z : CProgram). Alike (core_behaviour p m input) (behaviour z input)) (code_same c y x e is) (program_alike (layout_of p) p h.sound (made_laid p h.sound h.modest) m input))
+    (subst (λ (z : CProgram). Alike (core_behaviour p m input) (behaviour z input)) (code_same c y (spared p ranks) x e is) (program_alike (spared p ranks) p h.sound (spared_laid p ranks h.sound h.modest) m input))
 
 -- ---- Answers that hold where there is a value
 

@@ -13,6 +13,7 @@ use Rattle.aplc_gen.specs.Emitted.{site_at}
 use Rattle.aplc_gen.specs.Laid.{is_laid_site, IsLaid, HasCounts}
 use Rattle.aplc_gen.specs.Sound.{is_sound}
 use Rattle.aplc_gen.specs.Made.{layout_of, is_modest}
+use Rattle.aplc_gen.specs.Sparing.{spared}
 use Rattle.aplc_gen.proofs.MadeLaid.{made_laid}
 use Rattle.aplc_gen.proofs.MadeCounts.{made_counts}
 
@@ -81,3 +82,26 @@ sample_laid = made_laid sample sample_sound sample_modest
 
 pub sample_counts : HasCounts (layout_of sample)
 sample_counts = made_counts sample sample_sound sample_modest
+
+-- ---- With fewer flags
+
+-- MAIN calls F and has the higher rank, so that calls need not be counted. The branch leaves A unset, so A keeps its flag;
+-- X is an argument and the result is set before the end, so neither has one.
+abbrev expected_spared : Layout
+expected_spared = record {
+  globals = 2 ∷ [];
+  unsure = 2 ∷ [];
+  called = 1 ∷ [];
+  counted = false;
+  frames =
+      record { names = []; unsure = []; slots = 2; sure = [] }
+      ∷ record { names = 4 ∷ 3 ∷ []; unsure = []; slots = 0; sure = 4 ∷ 3 ∷ [] }
+      ∷ [];
+}
+
+sample_spared : spared sample (1 ∷ 0 ∷ []) ≡ expected_spared
+sample_spared = refl
+
+-- where the call does not lead down, calls are counted
+sample_level : spared sample (0 ∷ 0 ∷ []) ≡ record expected_spared { counted = true }
+sample_level = refl

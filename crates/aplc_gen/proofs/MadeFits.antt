@@ -1,5 +1,5 @@
 -- The code of a program can be written with the variables that are made for it.
-use Rattle.std.proofs.Common.{◌≡◌, ◌∙◌, sym, ap, subst, refl, ℕ, suc, ◌+◌, ◌<◌, ◌≤◌, max, List, [], ◌∷◌, length, true, nat_lt, nat_le, ◌&&◌, Option, Some, None, slice_get, arith, ℤ}
+use Rattle.std.proofs.Common.{◌≡◌, ◌∙◌, sym, subst, refl, ℕ, ◌+◌, ◌<◌, ◌≤◌, max, List, [], ◌∷◌, length, true, nat_lt, nat_le, ◌&&◌, Option, Some, None, slice_get, arith, ℤ}
 use Rattle.std.specs.Prelude.{unwrap_or, option_and_then}
 use Rattle.std.proofs.lemmas.List.{length-map}
 use Rattle.std.proofs.lemmas.Bool.Decides.{nat_tests}
@@ -17,9 +17,10 @@ use Rattle.aplc_gen.specs.Built.{is_number, number_of, is_sign, is_checked}
 use Rattle.aplc_gen.specs.Layouts.{Frame, frame_of, no_frame}
 use Rattle.aplc_gen.specs.Emitted.{width}
 use Rattle.aplc_gen.specs.Sound.{Ready, nothing_ready, ready_after, is_variable, is_term, is_effect, are_effects, term_cost, effect_cost, effects_cost, is_line, are_lines, is_sound, begins, are_routines}
-use Rattle.aplc_gen.specs.Made.{Needs, no_needs, with_slots, with_called, term_needs, step_needs, steps_need, lines_need, routine_needs, frames_made, layout_of, are_low_routines, is_modest}
+use Rattle.aplc_gen.specs.Made.{Needs, no_needs, with_slots, with_called, term_needs, step_needs, steps_need, lines_need, routine_needs, layout_of, are_low_routines, is_modest}
 use Rattle.aplc_gen.specs.Writing.{lowered_core, fits_term, fits_tree, fits_slot, fits_step, fits_steps, fits_lines, FitsProgram}
 use Rattle.aplc_gen.proofs.Frames.{and_left, and_right}
+use Rattle.aplc_gen.proofs.MadeFrames.{frames_length}
 use Rattle.aplc_gen.proofs.MadeServes.{Serves, both, global_back, slot_back, slots_back, term_back, steps_back, lines_back}
 use Rattle.aplc_gen.proofs.MadeLaid.{made_of, routine_sound, lines_sound}
 use Rattle.aplc_gen.proofs.MadeCounts.{few_none, all_few}
@@ -117,10 +118,6 @@ routine_fits p ok j (Some f) at =
     let m = made_of p j f at in
     subst (λ (o : Option Frame). fits_lines (unwrap_or o no_frame).slots f.steps ≡ true) (sym m.frame)
     (lines_fit p f.header.scope (layout_of p).globals (layout_of p).called (routine_needs f m.before).slots f.steps (record m.before { slots = 0 }) (lines_sound p f (routine_sound p p.routines j f ok at)) m.there)
-
-frames_length : (fs : List CoreRoutine) (s : Needs) → length (frames_made fs s) ≡ length fs
-frames_length [] s = refl
-frames_length (f ∷ fs) s = ap suc (frames_length fs (routine_needs f s))
 
 pub made_fits : (c : Core) → is_sound (lowered_core c) ≡ true → is_modest (lowered_core c) ≡ true → FitsProgram (layout_of (lowered_core c)) c
 made_fits c sound modest =

@@ -75,19 +75,19 @@ given (Some m) n e = let same : m ≡ n = cc in subst (λ k. is_among n (k ∷ [
     by : nat_eq n n ≡ true → (nat_eq n n || false) ≡ true
     by h = rw h refl
 
-result_named : (f : Routine) (n : ℕ) → f.result ≡ Some n → is_among n (names_of_header f) ≡ true
+pub result_named : (f : Routine) (n : ℕ) → f.result ≡ Some n → is_among n (names_of_header f) ≡ true
 result_named f n e =
     among_left n (option_to_list f.result ++ option_to_list f.left ++ option_to_list f.right) f.locals
     (among_left n (option_to_list f.result ++ option_to_list f.left) (option_to_list f.right)
     (among_left n (option_to_list f.result) (option_to_list f.left) (given f.result n e)))
 
-left_named : (f : Routine) (n : ℕ) → f.left ≡ Some n → is_among n (names_of_header f) ≡ true
+pub left_named : (f : Routine) (n : ℕ) → f.left ≡ Some n → is_among n (names_of_header f) ≡ true
 left_named f n e =
     among_left n (option_to_list f.result ++ option_to_list f.left ++ option_to_list f.right) f.locals
     (among_left n (option_to_list f.result ++ option_to_list f.left) (option_to_list f.right)
     (among_right n (option_to_list f.result) (option_to_list f.left) (given f.left n e)))
 
-right_named : (f : Routine) (n : ℕ) → f.right ≡ Some n → is_among n (names_of_header f) ≡ true
+pub right_named : (f : Routine) (n : ℕ) → f.right ≡ Some n → is_among n (names_of_header f) ≡ true
 right_named f n e =
     among_left n (option_to_list f.result ++ option_to_list f.left ++ option_to_list f.right) f.locals
     (among_right n (option_to_list f.result ++ option_to_list f.left) (option_to_list f.right) (given f.right n e))
@@ -210,7 +210,7 @@ module _ (p : PlainCore) (ok : are_routines p p.routines ≡ true) (low : are_lo
   none_of None h = refl
   none_of (Some n) h = absurd (cc)
 
-  bare_none : (f : CoreRoutine) → is_bare f.header ≡ true → parameters f ≡ []
+  pub bare_none : (f : CoreRoutine) → is_bare f.header ≡ true → parameters f ≡ []
   bare_none f h =
       let rest = and_right (both_or_none f.header.left None) (both_or_none f.header.right None && both_or_none f.header.result None) h in
       let left = none_of f.header.left (and_left (both_or_none f.header.left None) (both_or_none f.header.right None && both_or_none f.header.result None) h) in
@@ -262,7 +262,7 @@ is_counted_so : (js : List ℕ) → is_counted js (is_some_called js) ≡ true
 is_counted_so [] = refl
 is_counted_so (j ∷ js) = refl
 
-shallow_made : (p : PlainCore) → (layout_of p).counted ≡ false → IsShallow p
+pub shallow_made : (p : PlainCore) → (layout_of p).counted ≡ false → IsShallow p
 shallow_made p none = record {
   rank = λ j. 0;
   low = λ j. omega arith;

@@ -33,7 +33,7 @@ among_either m (x ∷ xs) ys h =
     (λ a. ⊎_elim (λ b. inl (or_right (nat_eq m x) (is_among m xs) b)) (λ b. inr b) (among_either m xs ys a))
     (or_cases (nat_eq m x) (is_among m (xs ++ ys)) h)
 
-among_self : (n : ℕ) (ns : List ℕ) → is_among n (n ∷ ns) ≡ true
+pub among_self : (n : ℕ) (ns : List ℕ) → is_among n (n ∷ ns) ≡ true
 among_self n ns = or_left (nat_eq n n) (is_among n ns) (itself n)
 
 pub new_there : (n : ℕ) (ns : List ℕ) → is_among n (with_new n ns) ≡ true

@@ -1,13 +1,13 @@
 -- Lists of names: where each stands, and which are among them.
-use Rattle.std.proofs.Common.{◌≡◌, ◌∙◌, sym, ap, subst, refl, append_assoc, append-nil, ℕ, zero, suc, ◌+◌, ◌-◌, ◌≤◌, ◌<◌, List, [], ◌∷◌, ◌++◌, length, drop, slice_get, Option, Some, None, Bool, true, false, cond, nat_eq, nat_lt, if◌then◌else◌, ◌||◌, arith, position}
-use Rattle.std.specs.List.{position_or_len, list_any, IsDistinct, AllByRecursion}
+use Rattle.std.proofs.Common.{◌≡◌, ◌∙◌, sym, ap, subst, refl, append_assoc, append-nil, ℕ, zero, suc, ◌+◌, ◌-◌, ◌≤◌, ◌<◌, List, [], ◌∷◌, ◌++◌, length, take, drop, get_or, slice_get, Option, Some, None, Bool, true, false, cond, nat_eq, nat_lt, if◌then◌else◌, ◌||◌, arith, position}
+use Rattle.std.specs.List.{position_or_len, list_any, IsDistinct, AllByRecursion, filter}
 use Rattle.std.specs.Option.{option_to_list}
 use Rattle.std.specs.Prelude.{reverse}
 use Rattle.std.proofs.lemmas.List.{reverse-append}
 use Rattle.std.proofs.lemmas.Bool.Decides.{nat_tests}
 use Rattle.std.proofs.lemmas.List.Recursion.{is_position_or_len}
 use Rattle.std.proofs.lemmas.Bool.{eqb-true}
-use Rattle.std.proofs.lemmas.Map.Keys.{IsDistinct-head, IsDistinct-tail}
+use Rattle.std.proofs.lemmas.Map.Keys.{IsDistinct-head, IsDistinct-tail, IsDistinct-cons}
 use Rattle.indexmap.specs.IndexSet.{insert_key}
 use Rattle.aplc_names.specs.States.{is_among}
 use Rattle.aplc_gen.specs.Layouts.{place_in}
@@ -148,3 +148,61 @@ each_kept xs (m ∷ ms) d =
 
 pub copied : (ns start new : List ℕ) → IsDistinct nat_eq ns → start ≡ [] → new ≡ with_each start ns → new ≡ ns
 copied ns start new d s e = e ∙ ap (λ xs. with_each xs ns) s ∙ each_kept [] ns d
+
+-- ---- Names that are known
+
+-- all of them, one by one
+pub reverse_left : (xs ks new whole : List ℕ) (m : ℕ) (rest : List ℕ) → xs ≡ m ∷ rest → new ≡ m ∷ ks → reverse xs ++ ks ≡ whole → reverse rest ++ new ≡ whole
+reverse_left xs ks new whole m rest e f h =
+    ap (λ ys. reverse rest ++ ys) f ∙ sym (append_assoc (reverse rest) (m ∷ []) ks) ∙ sym (ap (λ ys. ys ++ ks) (ap reverse e ∙ reverse-append (m ∷ []) rest)) ∙ h
+
+pub copied_all : (xs none new : List ℕ) → none ≡ [] → new ≡ reverse xs ++ none → new ≡ reverse xs
+copied_all xs none new e f = f ∙ ap (λ ys. reverse xs ++ ys) e ∙ append-nil (reverse xs)
+
+-- each once, from the last to the first
+take_all : (xs : List ℕ) → take (length xs) xs ≡ xs
+take_all [] = refl
+take_all (x ∷ xs) = ap (λ ys. x ∷ ys) (take_all xs)
+
+pub once_all : (xs ns : List ℕ) → ns ≡ [] → with_each ns (reverse (take (length xs) xs)) ≡ with_each [] (reverse xs)
+once_all xs ns e = ap (λ ks. with_each ks (reverse (take (length xs) xs))) e ∙ ap (λ ys. with_each [] (reverse ys)) (take_all xs)
+
+take_more : (xs : List ℕ) (i d : ℕ) → i < length xs → take (suc i) xs ≡ take i xs ++ get_or xs i d ∷ []
+take_more [] i d lt = absurd (omega (arith, lt))
+take_more (x ∷ xs) zero d lt = refl
+take_more (x ∷ xs) (suc i) d lt = ap (λ ys. x ∷ ys) (take_more xs i d (omega (arith, lt)))
+
+pub once_more : (xs ns new whole : List ℕ) (i d : ℕ) → 0 < i → i ≤ length xs → new ≡ with_new (get_or xs (i - 1) d) ns → with_each ns (reverse (take i xs)) ≡ whole → with_each new (reverse (take (i - 1) xs)) ≡ whole
+once_more xs ns new whole i d some lt e h =
+    let next : i ≡ suc (i - 1) = omega (arith, some) in
+    ap (λ ks. with_each ks (reverse (take (i - 1) xs))) e
+    ∙ sym (ap (with_each ns) (ap reverse (ap (λ k. take k xs) next ∙ take_more xs (i - 1) d (omega (arith, some, lt))) ∙ reverse_one (take (i - 1) xs) (get_or xs (i - 1) d))) ∙ h
+
+-- those that are known, one by one
+pub kept_one : (test : ℕ → Bool) (xs ks new whole : List ℕ) (m : ℕ) (rest : List ℕ) → xs ≡ m ∷ rest → test m ≡ true → new ≡ with_new m ks → with_each ks (filter test xs) ≡ whole → with_each new (filter test rest) ≡ whole
+kept_one test xs ks new whole m rest e t f h =
+    ap (λ ys. with_each ys (filter test rest)) f ∙ sym (ap (λ b. with_each ks (cond b (m ∷ filter test rest) (filter test rest))) t) ∙ sym (ap (λ ys. with_each ks (filter test ys)) e) ∙ h
+
+pub kept_none : (test : ℕ → Bool) (xs ks whole : List ℕ) (m : ℕ) (rest : List ℕ) → xs ≡ m ∷ rest → test m ≡ false → with_each ks (filter test xs) ≡ whole → with_each ks (filter test rest) ≡ whole
+kept_none test xs ks whole m rest e t h =
+    sym (ap (λ b. with_each ks (cond b (m ∷ filter test rest) (filter test rest))) t) ∙ sym (ap (λ ys. with_each ks (filter test ys)) e) ∙ h
+
+apart_kept : (test : ℕ → Bool) (m : ℕ) (xs : List ℕ) → AllByRecursion (λ y. nat_eq m y ≡ false) xs → AllByRecursion (λ y. nat_eq m y ≡ false) (filter test xs)
+apart_kept test m [] h = h
+apart_kept test m (x ∷ xs) h = by (test x) (apart_kept test m xs h.1)
+  where
+    by : (b : Bool) → AllByRecursion (λ y. nat_eq m y ≡ false) (filter test xs) → AllByRecursion (λ y. nat_eq m y ≡ false) (cond b (x ∷ filter test xs) (filter test xs))
+    by true r = (h.0, r)
+    by false r = r
+
+still_once : (test : ℕ → Bool) (xs : List ℕ) → IsDistinct nat_eq xs → IsDistinct nat_eq (filter test xs)
+still_once test [] d = d
+still_once test (x ∷ xs) d = by (test x) (still_once test xs (IsDistinct-tail nat_eq x xs d))
+  where
+    by : (b : Bool) → IsDistinct nat_eq (filter test xs) → IsDistinct nat_eq (cond b (x ∷ filter test xs) (filter test xs))
+    by true r = IsDistinct-cons nat_eq x (filter test xs) (apart_kept test x xs (IsDistinct-head nat_eq x xs d)) r
+    by false r = r
+
+-- a test keeps numbers that stand once
+pub kept_once : (test : ℕ → Bool) (ns none new : List ℕ) → IsDistinct nat_eq ns → none ≡ [] → new ≡ with_each none (filter test ns) → new ≡ filter test ns
+kept_once test ns none new d e f = f ∙ ap (λ ks. with_each ks (filter test ns)) e ∙ each_kept [] (filter test ns) (still_once test ns d)

@@ -8,3 +8,4 @@ pub mod Laid
 pub mod Made
 pub mod Writing
 pub mod Flows
+pub mod Sparing

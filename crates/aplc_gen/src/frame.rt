@@ -4,7 +4,7 @@
 ghost use Rattle.std.specs.Prelude.{◌≡◌, ◌+◌, ◌<◌, ◌≤◌, ◌^◌, length, slice_get, option_copied};
 ghost use Rattle.aplc_names.specs.States.{is_among};
 ghost use Rattle.aplc_cprof.specs.declared.syntax.Int.TheVariants as int;
-ghost use Rattle.aplc_gen.specs.Layouts.{place_in, global_base, global_ints, global_value, global_flag, function_place};
+ghost use Rattle.aplc_gen.specs.Layouts.{place_in, frame_of, global_base, global_ints, global_value, global_flag, function_place};
 ghost use Rattle.aplc_gen.specs.Writing.{IsShort, HasShortLists};
 
 use crate::names::Names;
@@ -60,6 +60,14 @@ impl Frame {
         ensures { result ≡ int.Local (length self.now.names + place_in self.now.unsure name) }
     {
         Int::Local(self.names.len() as u32 + self.unsure.place(name) as u32)
+    }
+
+    /// The local names that have a variable.
+    pub fn names(&self) -> &Names
+        ensures names { result.now ≡ self.now.names }
+        ensures short { IsShort self.now }
+    {
+        &self.names
     }
 
     pub fn is_unsure(&self, name: u32) -> bool
@@ -200,6 +208,14 @@ impl Layout {
         self.called.place(function) as u32 + 1
     }
 
+    /// The global names that have a variable.
+    pub fn globals(&self) -> &Names
+        ensures names { result.now ≡ self.now.globals }
+        ensures short { HasShortLists self.now }
+    {
+        &self.globals
+    }
+
     /// The functions that are called, in the order of their C functions.
     pub fn called(&self) -> &Names
         ensures { result.now ≡ self.now.called }
@@ -212,6 +228,22 @@ impl Layout {
         ensures { result ≡ self.now.counted }
     {
         self.counted
+    }
+
+    /// How many functions there are.
+    pub fn count(&self) -> usize
+        ensures { result ≡ length self.now.frames }
+    {
+        self.frames.as_slice().len()
+    }
+
+    /// The variables of a function that is there.
+    #[tactic(auto, using(crate::proofs::SparedRows::frame_there))]
+    pub fn frame_of(&self, function: usize) -> &Frame
+        requires { function < length self.now.frames }
+        ensures { result.now ≡ frame_of self.now function }
+    {
+        &self.frames.as_slice()[function]
     }
 
     /// The variables of a function, by its number.

@@ -11,6 +11,7 @@ ghost use Rattle.aplc_gen.specs.Unbuilt.{first_place};
 
 use crate::generating::build;
 use crate::layout::layout;
+use crate::sparing::spared;
 use aplc_core::{CoreProgram, lowered_keeps_runs};
 use aplc_cprof::CProgram;
 use aplc_plan::Plan;
@@ -25,6 +26,7 @@ pub fn generate(alloc: Global, core: &CoreProgram, _plan: &Plan) -> Result<CProg
 {
     lowered_keeps_runs(core);
     let _program = core.bound().program();
-    let layout = layout(alloc, core)?;
+    let every = layout(alloc, core)?;
+    let layout = spared(alloc, core, &every)?;
     build(alloc, core, &layout)
 }

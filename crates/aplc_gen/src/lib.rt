@@ -3,6 +3,7 @@
 #![tactic(auto)]
 
 mod expressions;
+mod flags;
 mod flow;
 mod frame;
 mod generating;
@@ -12,8 +13,10 @@ mod layout;
 mod lead;
 mod names;
 mod passing;
+mod ranks;
 mod segments;
 mod site;
+mod sparing;
 mod statements;
 mod terms;
 mod unbuilt;

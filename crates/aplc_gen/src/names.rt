@@ -1,7 +1,8 @@
 //! Lists of names that know where each name stands.
 //! They must not know what the names are for.
 
-ghost use Rattle.std.specs.Prelude.{◌≡◌, ◌≤◌, [], length, slice_get, option_copied, IfOk, OnOk};
+ghost use Rattle.std.specs.Prelude.{◌≡◌, ◌≤◌, [], length, slice_get, option_copied, nat_eq, IfOk, OnOk};
+ghost use Rattle.std.specs.List.{IsDistinct};
 ghost use Rattle.aplc_names.specs.States.{is_among};
 ghost use Rattle.aplc_gen.specs.Layouts.{place_in};
 ghost use Rattle.aplc_gen.specs.Made.{with_new, with_each};
@@ -65,6 +66,13 @@ impl Names {
         let mut names = Names::new(alloc);
         names.add_all(self.names.as_slice())?;
         Ok(names)
+    }
+
+    pub fn as_slice(&self) -> &[u32]
+        ensures names { result.now ≡ self.now }
+        ensures once { IsDistinct nat_eq self.now }
+    {
+        self.names.as_slice()
     }
 
     pub fn get(&self, place: usize) -> Option<&u32>

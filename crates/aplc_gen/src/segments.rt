@@ -16,7 +16,7 @@ use sqlite_items::Items;
 use std::alloc::{AllocError, Global};
 
 /// Whether a line that is only gone through to is left to its arm.
-fn is_left(flow: &Flow, through: bool, line: usize) -> bool
+pub fn is_left(flow: &Flow, through: bool, line: usize) -> bool
     requires { line ≤ 1000 }
     ensures { result ≡ (through && is_entry (the_routine (site_of flow.now)) line) }
 {

@@ -116,7 +116,7 @@ fn emit_branch(
     }
 }
 
-fn function_of(scope: Scope) -> u32
+pub fn function_of(scope: Scope) -> u32
     ensures { result ≡ function_of scope }
 {
     match scope {

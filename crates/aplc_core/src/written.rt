@@ -112,10 +112,17 @@ impl Written {
         self.kept.pop()
     }
 
+    /// The steps, in no more memory than they need.
     pub fn into_steps(self) -> List<Step>
         ensures { result ≡ self.steps }
     {
-        List::from_vec(self.steps)
+        let Written {
+            mut steps,
+            kept: _,
+            free: _,
+        } = self;
+        steps.shrink_to_fit();
+        List::from_vec(steps)
     }
 
     /// A tree waits in a slot.

@@ -1,6 +1,6 @@
 -- The statements that trees are made of: guards of flags, the minus, checked arithmetic.
 use Rattle.std.proofs.Common.{◌≡◌, ℕ, ◌+◌, ◌≤◌, [], ◌∷◌, refl, ap, ◌∙◌, subst, arith, ℤ, pos, Bool, true, false, cond}
-use Rattle.std.specs.Prelude.{None, ◌-ℤ◌, ◌&&◌}
+use Rattle.std.specs.Prelude.{None, ◌&&◌}
 use Rattle.std.proofs.Math.IntN.{*ℤ_comm}
 use Rattle.aplc_scalar.specs.declared.function.ScalarFn.TheVariants as f
 use Rattle.aplc_scalar.specs.declared.kind.FaultKind.TheVariants as fault
@@ -11,6 +11,7 @@ use Rattle.aplc_cprof.specs.declared.syntax.Int.{Int}
 use Rattle.aplc_cprof.specs.declared.syntax.Int.TheVariants as int
 use Rattle.aplc_cprof.specs.declared.syntax.Op.TheVariants as op
 use Rattle.aplc_cprof.specs.declared.syntax.Checked.{Checked}
+use Rattle.aplc_cprof.specs.declared.syntax.Checked.TheVariants as checked
 use Rattle.aplc_cprof.specs.declared.syntax.StuckCause.TheVariants.{Range}
 use Rattle.aplc_cprof.specs.declared.syntax.CExpr.{CExpr}
 use Rattle.aplc_cprof.specs.declared.syntax.CExpr.TheVariants as expr
@@ -18,12 +19,11 @@ use Rattle.aplc_cprof.specs.declared.syntax.CStmt.TheVariants as stmt
 use Rattle.aplc_cprof.specs.Machine.{Todo, Code, Is, exact, read_int, ranged, set_int, settled}
 use Rattle.aplc_cprof.specs.Machine as machine
 use Rattle.aplc_cprof.proofs.Values.{value_Lit, value_Var, value_Bin, value_todo, ranged_in, ranged_out}
-use Rattle.aplc_cprof.proofs.Rules.{Any, Runs, FaultsAt, runs_less, runs_none, runs_If}
+use Rattle.aplc_cprof.proofs.Rules.{Any, Runs, FaultsAt, runs_none, runs_If}
 use Rattle.aplc_cprof.proofs.Singles.{runs_Check, runs_Check_limit, runs_Fault}
 use Rattle.aplc_cprof.proofs.Writes.{Written, written, written_here}
-use Rattle.aplc_gen.specs.Emitted.{guard, negative, local, minus_code, is_times, checked_of, checked_code}
+use Rattle.aplc_gen.specs.Emitted.{guard, local, minus_code, is_times, checked_of, checked_code}
 use Rattle.aplc_gen.proofs.Relation.{Kept}
-use Rattle.aplc_gen.proofs.Writes.{set_does}
 use Rattle.aplc_gen.proofs.Values.{signed, signed_fits}
 use Rattle.aplc_gen.proofs.Operands.{kept_todo, kept_written}
 
@@ -62,29 +62,19 @@ module _ (c : Code) where
       let e = w.steps in
       record { value = value_Var (int.Local k) c.tables t ∙ written_here (int.Local k) v s t w; kept = kept_written k v s t w; cost = omega (arith, e) }
 
-  negative_value : (e : CExpr) (z : ℤ) (s : machine.State) → in_range (pos 0 -ℤ z) ≡ true → machine.value e c.tables s ≡ Is z → machine.value (negative e) c.tables s ≡ Is (pos 0 -ℤ z)
-  negative_value e z s fits h =
-      value_Bin op.Sub (expr.Lit (pos 0)) e c.tables s
-      ∙ ap (λ a. machine.apply op.Sub a (machine.value e c.tables s)) (value_Lit (pos 0) c.tables s)
-      ∙ ap (λ b. machine.apply op.Sub (Is (pos 0)) b) h
-      ∙ ranged_in (pos 0 -ℤ z) fits
-
-  -- a monadic `-` takes a variable, a `+` nothing
-  pub minus_does : (m : Bool) (k : ℕ) (e : CExpr) (z : ℤ) (s : machine.State) (Stop : machine.State → Type 0) → in_range z ≡ true → machine.value e c.tables s ≡ Is z → Runs c Any (minus_code k m e) s (Placed c (cond m (local k) e) (signed m z) k 1 s) Stop
-  minus_does true k e z s Stop fits h =
-      runs_less c Any (stmt.Set (int.Local k) (negative e) ∷ []) s (Written (int.Local k) (pos 0 -ℤ z) s) (Placed c (local k) (pos 0 -ℤ z) k 1 s) Stop Stop
-      (placed_written k (pos 0 -ℤ z) s) (λ t q. q)
-      (set_does c (int.Local k) (negative e) s Stop (pos 0 -ℤ z) (negative_value e z s (signed_fits true z fits) h))
-  minus_does false k e z s Stop fits h =
-      runs_none c Any s (Placed c e z k 1 s) Stop
-      (λ rest. record { value = value_todo e c.tables s rest ∙ h; kept = kept_todo k s rest; cost = omega arith })
-
   -- ---- Checked arithmetic
 
   check_given : (o : Checked) (k : ℕ) (e f : CExpr) (a b : ℤ) (s : machine.State) (Stop : machine.State → Type 0) → in_range (exact o a b) ≡ true → machine.value e c.tables s ≡ Is a → machine.value f c.tables s ≡ Is b → Runs c Any (stmt.Check (int.Local k) o e f ∷ []) s (Placed c (local k) (exact o a b) k 1 s) Stop
   check_given o k e f a b s Stop fits is_a is_b =
       runs_Check c Any (int.Local k) o e f s (Placed c (local k) (exact o a b) k 1 s) Stop a b (exact o a b) is_a is_b (ranged_in (exact o a b) fits) (λ rest. tt)
       (λ rest. placed_written k (exact o a b) s (settled (record (set_int (int.Local k) (exact o a b) s) { todo = rest })) (written (int.Local k) (exact o a b) s rest))
+
+  -- a monadic `-` takes a variable, a `+` nothing
+  pub minus_does : (m : Bool) (k : ℕ) (e : CExpr) (z : ℤ) (s : machine.State) (Stop : machine.State → Type 0) → in_range z ≡ true → machine.value e c.tables s ≡ Is z → Runs c Any (minus_code k m e) s (Placed c (cond m (local k) e) (signed m z) k 1 s) Stop
+  minus_does true k e z s Stop fits h = check_given checked.Sub k (expr.Lit (pos 0)) e (pos 0) z s Stop (signed_fits true z fits) (value_Lit (pos 0) c.tables s) h
+  minus_does false k e z s Stop fits h =
+      runs_none c Any s (Placed c e z k 1 s) Stop
+      (λ rest. record { value = value_todo e c.tables s rest ∙ h; kept = kept_todo k s rest; cost = omega arith })
 
   check_fault : (o : Checked) (k : ℕ) (e f : CExpr) (a b : ℤ) (s : machine.State) (Post : machine.State → Type 0) → in_range (exact o a b) ≡ false → machine.value e c.tables s ≡ Is a → machine.value f c.tables s ≡ Is b → Runs c Any (stmt.Check (int.Local k) o e f ∷ []) s Post (λ t. FaultsAt c fault.Limit t × Kept k s t)
   check_fault o k e f a b s Post out is_a is_b =

@@ -12,6 +12,7 @@ use Rattle.aplc_syntax.specs.declared.tree.Primitive.{Primitive}
 use Rattle.aplc_cprof.specs.declared.syntax.Int.{Int}
 use Rattle.aplc_cprof.specs.declared.syntax.Int.TheVariants as int
 use Rattle.aplc_cprof.specs.declared.syntax.Op.TheVariants as op
+use Rattle.aplc_cprof.specs.declared.syntax.Checked.TheVariants as checked
 use Rattle.aplc_cprof.specs.declared.syntax.CExpr.{CExpr}
 use Rattle.aplc_cprof.specs.declared.syntax.CExpr.TheVariants as expr
 use Rattle.aplc_cprof.specs.declared.syntax.CStmt.{CStmt}
@@ -19,7 +20,7 @@ use Rattle.aplc_cprof.specs.declared.syntax.CStmt.TheVariants as stmt
 use Rattle.aplc_cprof.specs.WellFormed as formed
 use Rattle.aplc_cprof.specs.WellFormed.{is_int, is_plain, is_expr, is_stmt, are_stmts}
 use Rattle.aplc_cprof.proofs.Forms.{is_Lit, is_Bin, is_Fault}
-use Rattle.aplc_cprof.proofs.Emitted.{both_true, and_left, and_right, is_below, var_formed, lit_formed, stmts_append, one_stmt, set_formed, check_formed, if_formed}
+use Rattle.aplc_cprof.proofs.Emitted.{both_true, and_left, and_right, is_below, var_formed, lit_formed, stmts_append, one_stmt, check_formed, if_formed}
 use Rattle.aplc_names.specs.declared.scope.Scope.{Scope}
 use Rattle.aplc_names.specs.declared.scope.Scope.TheVariants as scope
 use Rattle.aplc_names.specs.States.{is_among}
@@ -29,7 +30,7 @@ use Rattle.aplc_gen.specs.Built.{number_of, is_number, is_sign, is_checked}
 use Rattle.aplc_gen.specs.Layouts.{Site, the_frame, place_in, global_ints, global_base, local_value, local_flag, value_place, flag_place, is_unsure, slot_place, base}
 use Rattle.aplc_gen.specs.Laid.{has_place, is_flagged, is_laid_term}
 use Rattle.aplc_gen.specs.Sound.{Ready, is_variable, is_readable, is_read, is_term}
-use Rattle.aplc_gen.specs.Emitted.{literal_expr, negative, local, guard, scope_at, is_minus, checked_of, name_operand, operand, known_after, read_code, is_constant, is_times, checked_code, minus_code, tree_code, width}
+use Rattle.aplc_gen.specs.Emitted.{literal_expr, local, guard, scope_at, is_minus, checked_of, name_operand, operand, known_after, read_code, is_constant, is_times, checked_code, minus_code, tree_code, width}
 
 -- ---- Numbers and lists
 
@@ -194,10 +195,9 @@ module _ (sc : formed.Scope) where
 
     minus_formed : (m : Bool) (k room : ℕ) (e : CExpr) → (m ≡ true → k < sc.ints) → ((q : ℕ) → 1 ≤ q → is_expr sc e (Some q) ≡ true) → 2 ≤ room → are_stmts sc (minus_code k m e) (Some room) ≡ true
     minus_formed false k room e lt h le = refl
-    minus_formed true k zero e lt h le = absurd (omega (arith, le))
-    minus_formed true k (suc r) e lt h le =
-        one (stmt.Set (int.Local k) (negative e)) (suc r)
-        (set_formed sc (Some (suc r)) (int.Local k) (negative e) (is_below k sc.ints (lt refl)) (bin_at op.Sub (expr.Lit (pos 0)) e r (number_formed 0 r (omega arith)) (h r (omega (arith, le)))))
+    minus_formed true k room e lt h le =
+        one (stmt.Check (int.Local k) checked.Sub (expr.Lit (pos 0)) e) room
+        (check_formed sc (Some room) (int.Local k) checked.Sub (expr.Lit (pos 0)) e (is_below k sc.ints (lt refl)) (number_formed 0 room (omega (arith, le))) (h room (omega (arith, le))))
 
     check_turned : (turned : Bool) (k room : ℕ) (p : Primitive) (x y : CExpr) → k < sc.ints → is_expr sc x (Some room) ≡ true → is_expr sc y (Some room) ≡ true → are_stmts sc (checked_code k p turned x y ∷ []) (Some room) ≡ true
     check_turned true k room p x y lt h j = one (checked_code k p true x y) room (check_formed sc (Some room) (int.Local k) (checked_of p) y x (is_below k sc.ints lt) j h)

@@ -32,9 +32,6 @@ use Rattle.aplc_gen.specs.Layouts.{Layout, Site, function_place, frame_of, routi
 abbrev pub literal_expr : ℤ → CExpr
 literal_expr z = if int_lt z (pos 0) then expr.Bin op.Sub (expr.Lit (pos 0)) (expr.Lit (pos 0 -ℤ z)) else expr.Lit z
 
-abbrev pub negative : CExpr → CExpr
-negative e = expr.Bin op.Sub (expr.Lit (pos 0)) e
-
 abbrev pub local : ℕ → CExpr
 local k = expr.Var (int.Local k)
 
@@ -97,7 +94,7 @@ checked_code k p true x y = stmt.Check (int.Local k) (checked_of p) y x
 checked_code k p false x y = stmt.Check (int.Local k) (checked_of p) x y
 
 abbrev pub minus_code : ℕ → Bool → CExpr → List CStmt
-minus_code k true e = stmt.Set (int.Local k) (negative e) ∷ []
+minus_code k true e = stmt.Check (int.Local k) checked.Sub (expr.Lit (pos 0)) e ∷ []
 minus_code k false e = []
 
 -- the right argument, the left one, the function

@@ -10,7 +10,7 @@ use crate::expressions::{emit_guard, literal, number_of};
 use crate::known::Known;
 use crate::site::Site;
 use aplc_core::Tree;
-use aplc_cprof::{Builder, CExpr, CStmt, Checked, Int, Op, binary};
+use aplc_cprof::{Builder, CExpr, CStmt, Checked, Int};
 use aplc_names::Scope;
 use aplc_scalar::ScalarFn;
 use aplc_syntax::{NameId, Prim};
@@ -99,13 +99,7 @@ fn emit_read(
     }
 }
 
-fn negative(alloc: Global, value: CExpr) -> Result<CExpr, AllocError>
-    ensures { IfOk result (λ e. e ≡ CExpr.Bin Op.Sub (CExpr.Lit (pos 0)) value) }
-{
-    binary(alloc, Op::Sub, CExpr::Lit(0), value)
-}
-
-/// The value is negated.
+/// The value is negated: it is taken from 0.
 fn emit_minus(
     alloc: Global,
     b: &mut Builder,
@@ -121,8 +115,7 @@ fn emit_minus(
         return Ok(());
     }
     let value = operand(alloc, site, free, argument)?;
-    let negated = negative(alloc, value)?;
-    b.emit(CStmt::Set(Int::Local(free), negated))
+    b.emit(CStmt::Check(Int::Local(free), Checked::Sub, CExpr::Lit(0), value))
 }
 
 /// A function of two numbers. A constant factor stands second.

@@ -65,6 +65,7 @@ source_of() { # KIND SIZE
   'long texts') lines "$2" "'$(times 250 x)'" ;;
   'long numbers') lines "$2" "$(times 125 '1 ')" ;;
   'signs of functions') lines "$2" "$(times 255 '-')1" ;;
+  'signed sums') lines "$2" "$(times 84 '1--')1" ;;
   declarations) declared "$2" ;;
   'local names') filled "$2" '∇MAIN' ';X' '\n∇\n' ;;
   'open parentheses') filled "$2" '∇MAIN\n' '(' '\n∇\n' ;;
@@ -81,7 +82,7 @@ kibibytes() { # FILE: the most memory that the program takes for it
 printf '∇MAIN\n∇\n' >"$work/empty.apl"
 least=$(kibibytes "$work/empty.apl")
 for kind in sums 'short lines' parentheses 'empty lines' 'empty lines below' comments 'one name' 'many names' assignments labels calls \
-  branches 'index lists' texts 'long texts' 'long numbers' 'signs of functions' declarations 'local names' 'open parentheses' \
+  branches 'index lists' texts 'long texts' 'long numbers' 'signs of functions' 'signed sums' declarations 'local names' 'open parentheses' \
   'a line of numbers' 'a line of quotes'; do
   for size in $((most / 2)) $most; do
     source_of "$kind" $size >"$work/source.apl"

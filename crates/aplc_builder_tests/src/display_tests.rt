@@ -1,9 +1,9 @@
 //! Arrays that emitted code displays.
 //! It must not take an expected text from a run.
 
+use crate::carrying::carries_out;
 use crate::display_cases::{CASES, Case};
 use crate::displays::{display_program, display_run};
-use crate::running::carries_out;
 use std::alloc::Global;
 use std::process::Abort;
 use std::test::Fail;

@@ -1,8 +1,8 @@
 //! Buffers that emitted code fills, at each rank.
 //! It must not take an expected value from a run.
 
+use crate::carrying::carries_out;
 use crate::fills::{empty_runs, fill_program, fill_runs};
-use crate::running::carries_out;
 use std::test::Fail;
 
 #[test]

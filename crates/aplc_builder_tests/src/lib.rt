@@ -4,6 +4,8 @@
 
 mod arrays;
 mod building;
+#[cfg(test)]
+mod carrying;
 mod display_cases;
 #[cfg(test)]
 mod display_tests;

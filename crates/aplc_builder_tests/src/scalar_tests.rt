@@ -1,7 +1,7 @@
 //! Each scalar function on each pair of numbers at the edges, as emitted and as `aplc_scalar` computes it.
 //! It must not take an expected value from a run.
 
-use crate::running::carries_out;
+use crate::carrying::carries_out;
 use crate::scalars::{
     DYADIC, MONADIC, dyad_program, dyad_runs, is_monadic, mono_program, mono_runs,
 };

@@ -297,7 +297,8 @@ impl Lowering {
     {
         let base = Boxed::new(alloc, self.last())?;
         let list = self.last_list(alloc, entries)?;
-        self.wait(Tree::Index(node, base, Items::from_vec(list)))?;
+        let boxed = Boxed::new(alloc, Items::from_vec(list))?;
+        self.wait(Tree::Index(node, base, boxed))?;
         Ok(())
     }
 

@@ -22,7 +22,7 @@ pub enum Tree {
     Slot(NodeId, SlotId),
     Mono(NodeId, Prim, Boxed<Tree>),
     Dyad(NodeId, Prim, Boxed<Tree>, Boxed<Tree>),
-    Index(NodeId, Boxed<Tree>, Items<Option<Tree>>),
+    Index(NodeId, Boxed<Tree>, Boxed<Items<Option<Tree>>>),
 }
 
 /// One effect of a line, under the number of the node that it carries out.

@@ -46,7 +46,7 @@ fn put_tree(out: &mut Vec<u32>, tree: &Tree) -> Result<(), AllocError>
         Tree::Index(node, a, entries) => {
             out.push(node.0)?;
             put_tree(out, a.get())?;
-            put_entries(out, entries.as_slice())
+            put_entries(out, entries.get().as_slice())
         }
     }
 }

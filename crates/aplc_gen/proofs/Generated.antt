@@ -25,6 +25,7 @@ use Rattle.aplc_gen.specs.Writing.{FitsProgram, lowered_core}
 use Rattle.aplc_gen.proofs.Behaving.{program_alike}
 use Rattle.aplc_gen.proofs.FormedPrograms.{program_formed}
 use Rattle.aplc_gen.proofs.ModestPrograms.{lowered_modest}
+use Rattle.aplc_gen.proofs.ProgramCodes.{program_is}
 use Rattle.aplc_gen.proofs.SoundPrograms.{lowered_sound}
 use Rattle.aplc_gen.proofs.SparedLaid.{spared_laid, spared_counts, spared_fits}
 
@@ -54,7 +55,7 @@ code_same c y z x e is = sym (is ∙ ap (λ (w : Layout). program_code w (lowere
 pub code_formed : (c : Core) (y : Layout) (x : CProgram) → IsAccepted c → IsMade c y → x ≡ program_code y (lowered_core c) → IsWellFormed x
 code_formed c y x h (ranks, e) is =
     let p = lowered_core c in
-    subst (λ (z : CProgram). IsWellFormed z) (code_same c y (spared p ranks) x e is) (program_formed (spared p ranks) p h.sound (spared_laid p ranks h.sound h.modest) (spared_counts p ranks h.sound h.modest))
+    subst (λ (z : CProgram). IsWellFormed z) (code_same c y (spared p ranks) x e is) (program_formed (program_code (spared p ranks) p) (spared p ranks) p (program_is (spared p ranks) p (spared_counts p ranks h.sound h.modest) h.sound) h.sound (spared_laid p ranks h.sound h.modest) (spared_counts p ranks h.sound h.modest))
 
 -- the core run is the eager run
 eagerly : (p : PlainProgram) → KeepsRuns p → (m : Marking) (input : List ℕ) (c : ℕ → Standing) → Alike (core_behaviour (lowered_program p) m input) c → Alike (source_behaviour p m input) c
@@ -64,7 +65,7 @@ pub code_alike : (c : Core) (y : Layout) (x : CProgram) → IsAccepted c → Kee
 code_alike c y x h keeps (ranks, e) is m input =
     let p = lowered_core c in
     eagerly (plain c.program) keeps m input (behaviour x input)
-    (subst (λ (z : CProgram). Alike (core_behaviour p m input) (behaviour z input)) (code_same c y (spared p ranks) x e is) (program_alike (spared p ranks) p h.sound (spared_laid p ranks h.sound h.modest) m input))
+    (subst (λ (z : CProgram). Alike (core_behaviour p m input) (behaviour z input)) (code_same c y (spared p ranks) x e is) (program_alike (program_code (spared p ranks) p) (spared p ranks) p (program_is (spared p ranks) p (spared_counts p ranks h.sound h.modest) h.sound) h.sound (spared_laid p ranks h.sound h.modest) m input))
 
 -- ---- Answers that hold where there is a value
 

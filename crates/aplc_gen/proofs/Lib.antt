@@ -1,7 +1,6 @@
 pub mod Adding
 pub mod Arms
 pub mod Behaving
-pub mod Bodies
 pub mod Branching
 pub mod Calling
 pub mod Calls
@@ -22,6 +21,8 @@ pub mod Landing
 pub mod Laying
 pub mod LayoutExamples
 pub mod Leaving
+pub mod LineMaps
+pub mod LineSteps
 pub mod Lines
 pub mod Listed
 pub mod MadeCounts
@@ -37,9 +38,9 @@ pub mod Numbered
 pub mod Operands
 pub mod Outcomes
 pub mod Places
+pub mod ProgramCodes
 pub mod Programs
 pub mod Reaching
-pub mod Relation
 pub mod Sites
 pub mod SoundCalls
 pub mod SoundCosts

@@ -291,6 +291,17 @@ abbrev pub steps_code : Site → List ℕ → List Effect → List CStmt
 steps_code g known [] = []
 steps_code g known (x ∷ xs) = step_code g known x ++ (if is_branch x then [] else steps_code g (known_behind known x) xs)
 
+-- the number of the line where a computed branch leads
+abbrev pub jump_code : Site → List ℕ → Term → Lead → List CStmt
+jump_code g known t computed = tree_code g known (base g) t ++ stmt.Set (int.Local (line_place g)) (operand g (base g) t) ∷ []
+jump_code g known t _ = []
+
+-- the steps of a line without what follows them
+abbrev pub work_code : Site → List ℕ → List Effect → List CStmt
+work_code g known [] = []
+work_code g known (Branch t ∷ xs) = jump_code g known t (lead (the_routine g) t)
+work_code g known (x ∷ xs) = step_code g known x ++ work_code g (known_behind known x) xs
+
 abbrev pub known_through : List ℕ → List Effect → List ℕ
 known_through known [] = known
 known_through known (x ∷ xs) = if is_branch x then known else known_through (known_behind known x) xs

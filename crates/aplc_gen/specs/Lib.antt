@@ -5,6 +5,8 @@ pub mod Sound
 pub mod Layouts
 pub mod Emitted
 pub mod Laid
+pub mod Relation
+pub mod Codes
 pub mod Made
 pub mod Writing
 pub mod Flows

@@ -7,6 +7,8 @@ pub mod Emitted
 pub mod Laid
 pub mod Relation
 pub mod Codes
+pub mod Owners
+pub mod Homes
 pub mod Made
 pub mod Writing
 pub mod Flows

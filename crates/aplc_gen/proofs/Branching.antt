@@ -22,7 +22,7 @@ use Rattle.aplc_core.specs.PlainSteps.{Term}
 use Rattle.aplc_core.specs.CoreRuns.{Told, Slots, CoreRoutine, PlainCore, term_value, core_run}
 use Rattle.aplc_gen.specs.Sound.{Ready, is_term, term_cost}
 use Rattle.aplc_gen.specs.Layouts.{Layout, Site, the_routine, the_frame, line_place, base}
-use Rattle.aplc_gen.specs.Emitted.{Lead, out, to, computed, landing, lead_at, lead_of_line, lead_by, known_number, lead, may_lead, is_out, is_entry, operand, tree_code, known_after, branch_code, go_to, site_at}
+use Rattle.aplc_gen.specs.Emitted.{Lead, out, to, computed, landing, lead_at, lead_of_line, lead_by, known_number, lead, may_lead, is_out, is_entry, operand, tree_code, known_after, go_to, site_at}
 use Rattle.aplc_gen.specs.Codes.{LeadsBy, exit_code}
 use Rattle.aplc_gen.specs.Relation.{course, Fails, Waits, IsNumber, Bounds, Here, Between, Computed, TreesDo, works, pay_if, owe, pay}
 use Rattle.aplc_gen.proofs.Writes.{set_does, quiet_written, globals_local, locals_local, between_kept, Looser, looser_trans, between_looser}

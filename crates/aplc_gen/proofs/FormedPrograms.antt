@@ -60,12 +60,12 @@ module _ (sc : formed.Scope) (g : Site) (ints bufs : ℕ) (enough : base g ≤ s
     arm_formed l room ([] ∷ xs) code is big lt ok laid laid_first =
         ap (λ (ss : List CStmt). are_stmts sc ss (Some room)) is
         ∙ lead_formed (lead_at (landing (l + 1) xs)) room (omega (arith, big))
-          (λ k e. let at = lead_at_is (landing (l + 1) xs) k e in let few = landing_le (l + 1) xs k at in omega (arith, few, lt))
+        (λ k e. let at = lead_at_is (landing (l + 1) xs) k e in let few = landing_le (l + 1) xs k at in omega (arith, few, lt))
     arm_formed l room ((x ∷ more) ∷ xs) code (body, is, lines) big lt ok laid laid_first =
         ap (λ (ss : List CStmt). are_stmts sc ss (Some room)) is
         ∙ one sc (stmt.While (is_line_test g l) body) room
-          (while_formed sc line_depth room (is_line_test g l) body (omega (arith, big)) (test_formed l room (omega (arith, lt)) (omega (arith, big)))
-          (λ r deep. lines_formed sc g ints bufs enough all_ints all_bufs declares counted leaves short named (entry_known g l) false r l ((x ∷ more) ∷ xs) body lines (omega (arith, lt)) ok (either (nat_eq l (first_line (the_routine g))) laid_first) deep))
+        (while_formed sc line_depth room (is_line_test g l) body (omega (arith, big)) (test_formed l room (omega (arith, lt)) (omega (arith, big)))
+        (λ r deep. lines_formed sc g ints bufs enough all_ints all_bufs declares counted leaves short named (entry_known g l) false r l ((x ∷ more) ∷ xs) body lines (omega (arith, lt)) ok (either (nat_eq l (first_line (the_routine g))) laid_first) deep))
       where
         either : (b : Bool) → (b ≡ true → are_laid_lines g (first_known g) false l ((x ∷ more) ∷ xs) ≡ true) → are_laid_lines g (cond b (first_known g) (the_frame g).sure) false l ((x ∷ more) ∷ xs) ≡ true
         either true h = h refl
@@ -100,7 +100,7 @@ module _ (sc : formed.Scope) (g : Site) (ints bufs : ℕ) (enough : base g ≤ s
             let arm : Arm = record { value = pos l; body = body } in
             ap (λ (zs : List Arm). arms_fit (map (arm_test sc) zs) (Some room)) is
             ∙ both_true ((arm_test sc arm).fits (Some room)) (arms_fit (map (arm_test sc) rest) (Some room))
-              (ap (λ (t : ArmTest). t.fits (Some room)) (is_arm sc arm) ∙ both_true (is_plain (pos l)) (inside (Some room) (are_stmts sc body)) (is_below l (2 ^ 63) (omega (arith, lt))) (mine body its h)) (k rest later)
+            (ap (λ (t : ArmTest). t.fits (Some room)) (is_arm sc arm) ∙ both_true (is_plain (pos l)) (inside (Some room) (are_stmts sc body)) (is_below l (2 ^ 63) (omega (arith, lt))) (mine body its h)) (k rest later)
 
   arms_rise : (low : ℤ) (l : ℕ) (xs : List (List Effect)) (all : List Arm) → AreArms (IsLine g ints bufs) g l xs all → ((k : ℕ) → l ≤ k → int_lt low (pos k) ≡ true) → rise_above low (map (arm_test sc) all) ≡ true
   arms_rise low l [] all is above = ap (λ (zs : List Arm). rise_above low (map (arm_test sc) zs)) is
@@ -187,8 +187,8 @@ module _ (sc : formed.Scope) (g : Site) (ints bufs : ℕ) (enough : base g ≤ s
     run_formed true room code (all, is, its) big ok laid arms_laid =
         ap (λ (ss : List CStmt). are_stmts sc ss (Some room)) is
         ∙ joined sc (go_to g (first_line (the_routine g))) (turn_code g all ∷ []) room
-          (go_formed sc g enough others (first_line (the_routine g)) room (let few = landing_le 1 (the_routine g).steps (first_line (the_routine g)) refl in omega (arith, few, short)))
-          (one sc (turn_code g all) room (loop_formed room all its big ok laid arms_laid))
+        (go_formed sc g enough others (first_line (the_routine g)) room (let few = landing_le 1 (the_routine g).steps (first_line (the_routine g)) refl in omega (arith, few, short)))
+        (one sc (turn_code g all) room (loop_formed room all its big ok laid arms_laid))
 
 -- ---- One function
 
@@ -289,8 +289,8 @@ called_formed x y p whole sound counts [] fs its is laid = ap (λ (zs : List CFu
 called_formed x y p whole sound counts (j ∷ js) fs (f, rest, same, its, later) is laid =
     ap (λ (zs : List CFunction). formed.are_functions (declared x) (Some 256) zs) same
     ∙ both_true (formed.is_function (declared x f) (Some 256) f) (formed.are_functions (declared x) (Some 256) rest)
-      (site_formed x y p whole sound counts false j (λ e. is (omega arith)) (and_left (is_laid_site (site_at y p false j)) (are_laid_sites y p js) laid) f its)
-      (called_formed x y p whole sound counts js rest later (λ lt. is (omega arith)) (and_right (is_laid_site (site_at y p false j)) (are_laid_sites y p js) laid))
+    (site_formed x y p whole sound counts false j (λ e. is (omega arith)) (and_left (is_laid_site (site_at y p false j)) (are_laid_sites y p js) laid) f its)
+    (called_formed x y p whole sound counts js rest later (λ lt. is (omega arith)) (and_right (is_laid_site (site_at y p false j)) (are_laid_sites y p js) laid))
 
 -- the C program is well formed
 pub program_formed : (x : CProgram) (y : Layout) (p : PlainCore) → IsProgramOf y p x → is_sound p ≡ true → IsLaid y p → HasCounts y → IsWellFormed x
@@ -311,10 +311,10 @@ program_formed x y p whole sound laid few =
     let c = is_count (length x.functions) in
     let m = nat_lt 0 (length x.functions) in
     let fs : formed.are_functions (declared x) (Some 256) x.functions ≡ true =
-        ap (λ (zs : List CFunction). formed.are_functions (declared x) (Some 256) zs) whole.functions
-        ∙ both_true (formed.is_function (declared x whole.first) (Some 256) whole.first) (formed.are_functions (declared x) (Some 256) whole.rest)
-          (site_formed x y p whole routines laid.counts true start (λ e. absurd (cc)) laid.begins whole.first whole.begins)
-          (called_formed x y p whole routines laid.counts y.called whole.rest whole.called (for_calls_some y.called) laid.calls) in
+    ap (λ (zs : List CFunction). formed.are_functions (declared x) (Some 256) zs) whole.functions
+    ∙ both_true (formed.is_function (declared x whole.first) (Some 256) whole.first) (formed.are_functions (declared x) (Some 256) whole.rest)
+    (site_formed x y p whole routines laid.counts true start (λ e. absurd (cc)) laid.begins whole.first whole.begins)
+    (called_formed x y p whole routines laid.counts y.called whole.rest whole.called (for_calls_some y.called) laid.calls) in
     both_true (((((i && b) && d) && c) && e) && m) (formed.are_functions (declared x) (Some 256) x.functions)
     (both_true ((((i && b) && d) && c) && e) m
     (both_true (((i && b) && d) && c) e

@@ -322,4 +322,4 @@ module _ (sc : formed.Scope) (g : Site) (ints bufs : ℕ) (enough : base g ≤ s
         either false (mine, rest, is, does, later) h line next =
             ap (λ (ss : List CStmt). are_stmts sc ss (Some room)) is
             ∙ joined sc (whole_line g l (x ∷ more) mine) rest room (line mine does (and_left (are_laid_steps g known (x ∷ more)) (cond (branches (x ∷ more)) true are_laid) h))
-              (on (branches (x ∷ more)) rest later (and_right (are_laid_steps g known (x ∷ more)) (cond (branches (x ∷ more)) true are_laid) h) (next rest))
+            (on (branches (x ∷ more)) rest later (and_right (are_laid_steps g known (x ∷ more)) (cond (branches (x ∷ more)) true are_laid) h) (next rest))

@@ -20,7 +20,7 @@ use Rattle.aplc_core.specs.CoreRuns.{told, no_slots, CoreRoutine, PlainCore, ste
 use Rattle.aplc_gen.specs.Shown.{place_shown}
 use Rattle.aplc_gen.specs.Sound.{nothing_ready, is_read, is_term, is_effect, are_effects, is_line, are_lines, effects_cost}
 use Rattle.aplc_gen.specs.Layouts.{Layout, Site, the_routine, the_frame}
-use Rattle.aplc_gen.specs.Emitted.{Lead, out, to, computed, lead, may_lead, steps_lead, step_leads, lines_lead, steps_loop, step_loops, lines_loop, landing, first_line, is_entry, known_through, branches, steps_code, line_code, lines_code, go_to, leave_code, site_at}
+use Rattle.aplc_gen.specs.Emitted.{Lead, out, to, computed, lead, may_lead, steps_lead, step_leads, lines_lead, steps_loop, step_loops, lines_loop, landing, first_line, is_entry, known_through, branches, go_to, leave_code, site_at}
 use Rattle.aplc_gen.specs.Emitted as emitted
 use Rattle.aplc_gen.specs.Sound as sound
 use Rattle.aplc_core.specs.PlainSteps as term

@@ -1,6 +1,7 @@
 pub mod Adding
 pub mod Arms
 pub mod Behaving
+pub mod BodyCodes
 pub mod Branching
 pub mod Calling
 pub mod Calls
@@ -21,6 +22,7 @@ pub mod Landing
 pub mod Laying
 pub mod LayoutExamples
 pub mod Leaving
+pub mod LineCodes
 pub mod LineMaps
 pub mod LineSteps
 pub mod Lines
@@ -38,7 +40,6 @@ pub mod Numbered
 pub mod Operands
 pub mod Outcomes
 pub mod Places
-pub mod ProgramCodes
 pub mod Programs
 pub mod Reaching
 pub mod Sites

@@ -1,12 +1,21 @@
--- Code of which less is asked of the steps of each line.
-use Rattle.std.proofs.Common.{◌≡◌, ℕ, ◌+◌, List, [], ◌∷◌, ◌++◌, pos, Bool, true, false}
+-- Code of which less is asked of the steps of each line, as where more variables are declared.
+use Rattle.std.proofs.Common.{◌≡◌, ℕ, ◌+◌, ◌≤◌, List, [], ◌∷◌, ◌++◌, arith, pos, Bool, true, false}
 use Rattle.std.specs.Prelude.{◌&&◌}
 use Rattle.aplc_cprof.specs.declared.syntax.Arm.{Arm}
 use Rattle.aplc_cprof.specs.declared.syntax.CStmt.{CStmt}
+use Rattle.aplc_cprof.specs.Blocks.{Blocks}
 use Rattle.aplc_core.specs.PlainSteps.{Effect}
 use Rattle.aplc_gen.specs.Layouts.{Site, the_routine}
 use Rattle.aplc_gen.specs.Emitted.{is_entry, known_through, branches, first_known, entry_known, go_to}
 use Rattle.aplc_gen.specs.Codes.{whole_line, Either, AreLines, IsArm, AreArms, IsRun}
+use Rattle.aplc_gen.specs.Added.{Lined}
+
+-- the code of a line is that also where more variables were given
+pub lined_more : (g : Site) (a b : Blocks) → a.ints ≤ b.ints → a.bufs ≤ b.bufs → (known : List ℕ) (l : ℕ) (xs : List Effect) (code : List CStmt) → Lined g a known l xs code → Lined g b known l xs code
+lined_more g a b ints bufs known l xs code line = record {
+  does = line.does;
+  placed = λ served sc room declares all_ints all_bufs deep. line.placed served sc room declares (omega (arith, ints, all_ints)) (omega (arith, bufs, all_bufs)) deep;
+}
 
 module _ (Line Less : List ℕ → ℕ → List Effect → List CStmt → Type 0) (g : Site) (less : (known : List ℕ) (l : ℕ) (xs : List Effect) (code : List CStmt) → Line known l xs code → Less known l xs code) where
   pub lines_less : (known : List ℕ) (through : Bool) (l : ℕ) (xs : List (List Effect)) (code : List CStmt) → AreLines Line g known through l xs code → AreLines Less g known through l xs code

@@ -268,7 +268,7 @@ module _ (c : Code) (n : ℕ) (m : Marking) (rank : ℕ → ℕ) (k : ℕ) (tree
           (runs_less c Any (set ∷ []) u (Written (int.Local (line_place g)) z u) (Rel None (Some (line_named z)) (on_account ended T)) (λ i. ⊥) (λ i. ⊥)
           (λ i written. (
             between_looser g (owe 1 d) e known ps.here ps.behind cs T.world i (looser_trans (owe 1 d) (pay_if (works t x) (owe (1 + term_cost x) b)) e (pay_owe (works t x) (term_cost x) b) paid)
-            (between_kept g d 1 known ps.here ps.behind cs T.world u i (quiet_written (int.Local (line_place g)) z u i written) (globals_local g.layout (line_place g) z u i written) (locals_local g (line_place g) z u i (omega arith) written) (behind v T u q)),
+                (between_kept g d 1 known ps.here ps.behind cs T.world u i (quiet_written (int.Local (line_place g)) z u i written) (globals_local g.layout (line_place g) z u i written) (locals_local g (line_place g) z u i (omega arith) written) (behind v T u q)),
             (z, written_here (int.Local (line_place g)) z u i written, refl),
           ))
           (λ i none. none)

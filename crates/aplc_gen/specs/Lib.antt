@@ -11,5 +11,6 @@ pub mod Owners
 pub mod Homes
 pub mod Made
 pub mod Writing
+pub mod Added
 pub mod Flows
 pub mod Sparing

@@ -1,40 +1,33 @@
 -- The branch that ends a line.
-use Rattle.std.proofs.Common.{◌≡◌, ℕ, zero, suc, ◌+◌, ◌<◌, ◌≤◌, List, [], ◌∷◌, ◌++◌, ◌⊎◌, inl, inr, ⊎_elim, refl, sym, ap, ◌∙◌, subst, arith, append_assoc, ℤ, pos, Bool, true, false, length}
-use Rattle.std.specs.Prelude.{Option, Some, None, map, drop}
+use Rattle.std.proofs.Common.{◌≡◌, ℕ, zero, suc, ◌<◌, ◌≤◌, List, ◌++◌, ◌⊎◌, inl, inr, ⊎_elim, refl, sym, ap, ◌∙◌, subst, arith, ℤ, pos, Bool, true, false, length}
+use Rattle.std.specs.Prelude.{Option, Some, None, drop}
 use Rattle.std.proofs.lemmas.Bool.{cases_lt, eq-eqb}
 use Rattle.aplc_arr.specs.Arrays.{Array}
 use Rattle.aplc_cprof.specs.declared.syntax.Int.TheVariants as int
 use Rattle.aplc_cprof.specs.declared.syntax.CExpr.TheVariants as expr
-use Rattle.aplc_cprof.specs.declared.syntax.CStmt.{CStmt}
-use Rattle.aplc_cprof.specs.declared.syntax.CStmt.TheVariants as stmt
 use Rattle.aplc_cprof.specs.Machine.{Todo, Code, Caller, Is, read_int, numbered, size, total}
 use Rattle.aplc_cprof.specs.Machine as machine
-use Rattle.aplc_cprof.proofs.Paths.{numbered-append}
 use Rattle.aplc_cprof.proofs.Values.{value_Lit}
 use Rattle.aplc_cprof.proofs.Rules.{Any, Comes, comes_runs}
-use Rattle.aplc_cprof.proofs.Matching.{ends_then, Course}
-use Rattle.aplc_cprof.proofs.Matching as matching
 use Rattle.aplc_cprof.proofs.Writes.{Written, written_here}
-use Rattle.aplc_names.specs.States.{Places, Place, State, Marking, Outcome, Gives, and_then, on_account, ended}
-use Rattle.aplc_names.specs.Eager.{Context, line_named, branch_to, branched}
+use Rattle.aplc_names.specs.States.{Places, Place, State, Marking, Outcome, Gives}
+use Rattle.aplc_names.specs.Eager.{line_named}
 use Rattle.aplc_names.specs.Runs.{result_of, place_of, after}
 use Rattle.aplc_core.specs.PlainSteps.{Term}
-use Rattle.aplc_core.specs.CoreRuns.{Told, Slots, CoreRoutine, PlainCore, term_value, core_run}
-use Rattle.aplc_gen.specs.Sound.{Ready, is_term, term_cost}
-use Rattle.aplc_gen.specs.Layouts.{Layout, Site, the_routine, the_frame, line_place, base}
-use Rattle.aplc_gen.specs.Emitted.{Lead, out, to, computed, landing, lead_at, lead_of_line, lead_by, known_number, lead, may_lead, is_out, is_entry, operand, tree_code, known_after, go_to, site_at}
+use Rattle.aplc_core.specs.CoreRuns.{CoreRoutine, PlainCore, core_run}
+use Rattle.aplc_gen.specs.Layouts.{Layout, Site, the_routine, the_frame, line_place}
+use Rattle.aplc_gen.specs.Emitted.{Lead, out, to, computed, landing, lead_at, lead_of_line, lead_by, known_number, lead, may_lead, is_out, is_entry, go_to, site_at}
 use Rattle.aplc_gen.specs.Codes.{LeadsBy, exit_code}
-use Rattle.aplc_gen.specs.Relation.{course, Fails, Waits, IsNumber, Bounds, Here, Between, Computed, TreesDo, works, pay_if, owe, pay}
-use Rattle.aplc_gen.proofs.Writes.{set_does, quiet_written, globals_local, locals_local, between_kept, Looser, looser_trans, between_looser}
-use Rattle.aplc_gen.proofs.Outcomes.{course_then, then_then, run_none}
-use Rattle.aplc_gen.proofs.Leaving.{Left, Stands, Goal}
+use Rattle.aplc_gen.specs.Relation.{Bounds, Between, owe, pay}
+use Rattle.aplc_gen.proofs.Writes.{set_does, quiet_written, globals_local, locals_local, between_kept, Looser, between_looser}
+use Rattle.aplc_gen.proofs.Outcomes.{run_none}
+use Rattle.aplc_gen.proofs.Leaving.{Stands, Goal}
 use Rattle.aplc_gen.proofs.Landing.{past_lines}
 use Rattle.aplc_gen.proofs.Reaching.{from_drop, drop_past}
-use Rattle.aplc_gen.proofs.Knowing.{Among, after_more}
-use Rattle.aplc_gen.proofs.Computing.{value_literal, here_computed}
+use Rattle.aplc_gen.proofs.Knowing.{Among}
 use Rattle.aplc_gen.proofs.Lines.{at_line, with_fuel, Sits, Room, IsHead, HeadDoes, skips}
 use Rattle.aplc_gen.proofs.Heads.{leaves}
-use Rattle.aplc_gen.proofs.Stepping.{is_same, static_of, branch_number, line_over, here_between}
+use Rattle.aplc_gen.proofs.Stepping.{line_over}
 
 module _ (c : Code) (n : ℕ) (p : PlainCore) (y : Layout) (m : Marking) (rank : ℕ → ℕ) (first : Bool) (j k : ℕ) (heads : (i : ℕ) → i ≤ k → HeadDoes c n p y m rank i) where
   abbrev g : Site

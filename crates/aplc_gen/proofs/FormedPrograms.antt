@@ -1,7 +1,6 @@
 -- The C program of a program is well formed.
 use Rattle.std.proofs.Common.{◌≡◌, ℕ, zero, suc, ◌+◌, ◌<◌, ◌≤◌, true, false, Bool, cond, List, [], ◌∷◌, ◌++◌, length, refl, ap, ◌∙◌, sym, subst, arith, ℤ, pos, negsuc}
-use Rattle.std.specs.Prelude.{Option, Some, None, map, max, ◌^◌, int_lt, nat_lt, nat_eq, nat_le, ◌&&◌, slice_get, unwrap_or, option_and_then}
-use Rattle.std.proofs.Math.Nat.{le-max_left, le-max_right, max-le}
+use Rattle.std.specs.Prelude.{Option, Some, None, map, ◌^◌, int_lt, nat_lt, nat_eq, nat_le, ◌&&◌, slice_get, unwrap_or, option_and_then}
 use Rattle.std.proofs.lemmas.Bool.{eqb-true}
 use Rattle.std.proofs.lemmas.Bool.Decides.{nat_tests}
 use Rattle.aplc_scalar.specs.declared.kind.FaultKind.TheVariants as fault
@@ -20,12 +19,12 @@ use Rattle.aplc_cprof.proofs.Forms.{is_Switch, is_Fault, is_Enter, is_arm}
 use Rattle.aplc_cprof.proofs.Emitted.{both_true, and_left, and_right, is_below, one_inside, var_formed, one_stmt, set_formed, if_formed, while_formed}
 use Rattle.aplc_names.specs.PlainPrograms.{header_count}
 use Rattle.aplc_names.specs.States.{is_among}
-use Rattle.aplc_core.specs.PlainSteps.{Term, Literal, Read, Slot, Mono, Dyad, Index, Effect, Keep, Store, StoreAt, Call, ReadText, ReadNums, Show, Branch}
-use Rattle.aplc_core.specs.CoreRuns.{told, CoreRoutine, PlainCore, no_core}
+use Rattle.aplc_core.specs.PlainSteps.{Effect}
+use Rattle.aplc_core.specs.CoreRuns.{CoreRoutine, PlainCore, no_core}
 use Rattle.aplc_gen.specs.Layouts.{Layout, Site, the_routine, the_frame, depth, right_passed, left_passed, for_calls, global_ints, local_value, local_flag, line_place, base}
 use Rattle.aplc_gen.specs.Laid.{are_laid_lines, are_laid_arms, are_among, known_at_end, is_laid_name, is_laid_result, is_laid_site, are_laid_sites, is_counted, IsLaid, HasCounts}
-use Rattle.aplc_gen.specs.Sound.{term_cost, effect_cost, effects_cost, are_effects, nothing_ready, is_line, are_lines, has_own_names, is_routine, are_routines, begins, is_sound}
-use Rattle.aplc_gen.specs.Emitted.{scope_at, width, Lead, out, to, computed, landing, lead_at, first_line, is_entry, lines_loop, go_to, flag_code, leave_code, first_known, entry_known, is_line_test, lead_code, clear_code, take_code, deep, count_up, count_first, enter_by, enter_code, site_at}
+use Rattle.aplc_gen.specs.Sound.{is_line, are_lines, has_own_names, is_routine, are_routines, begins, is_sound}
+use Rattle.aplc_gen.specs.Emitted.{scope_at, Lead, out, to, computed, landing, lead_at, first_line, is_entry, lines_loop, go_to, flag_code, leave_code, first_known, entry_known, is_line_test, lead_code, clear_code, take_code, deep, count_up, count_first, enter_by, enter_code, site_at}
 use Rattle.aplc_gen.specs.Codes.{Declares, line_depth, IsLine, Either, AreLines, IsArm, AreArms, turn_code, IsRun, IsBody, IsFunction, AreCalled, IsProgramOf}
 use Rattle.aplc_gen.proofs.FormedTrees.{number_formed, beside_number, one, two, joined, local_int, local_value_int, local_flag_int}
 use Rattle.aplc_gen.proofs.FormedSteps.{landing_le, lead_at_is, call_int, counted_int, leave_formed, go_formed, flag_formed, lines_formed}

@@ -1,6 +1,6 @@
 -- The code of steps and lines is well formed.
 use Rattle.std.proofs.Common.{◌≡◌, ℕ, zero, suc, ◌+◌, ◌<◌, ◌≤◌, true, false, Bool, cond, List, [], ◌∷◌, ◌++◌, length, drop, refl, ap, ◌∙◌, sym, subst, arith, ℤ, pos}
-use Rattle.std.specs.Prelude.{Option, Some, None, max, ◌^◌, nat_lt, nat_eq, nat_le, ◌&&◌, ◌||◌}
+use Rattle.std.specs.Prelude.{Option, Some, None, max, ◌^◌, nat_lt, nat_eq, ◌&&◌, ◌||◌}
 use Rattle.std.proofs.Math.Nat.{le-max_left, le-max_right}
 use Rattle.std.proofs.lemmas.Bool.{eqb-true}
 use Rattle.aplc_cprof.specs.declared.syntax.Int.{Int}
@@ -17,10 +17,10 @@ use Rattle.aplc_cprof.proofs.Emitted.{both_true, and_left, and_right, is_below, 
 use Rattle.aplc_names.specs.States.{is_among}
 use Rattle.aplc_names.specs.Eager.{function_of, line_named}
 use Rattle.aplc_core.specs.PlainSteps.{Term, Effect, Keep, Store, StoreAt, Call, ReadText, ReadNums, Show, Branch}
-use Rattle.aplc_core.specs.CoreRuns.{Told, told, CoreRoutine, PlainCore}
+use Rattle.aplc_core.specs.CoreRuns.{Told, CoreRoutine, PlainCore}
 use Rattle.aplc_gen.specs.Layouts.{Site, the_routine, the_frame, frame_of, routine_at, function_place, depth, right_passed, left_passed, result, result_flag, for_calls, global_ints, local_value, local_flag, value_place, flag_place, is_unsure, line_place, slot_place, base}
 use Rattle.aplc_gen.specs.Laid.{has_place, is_laid_term, is_laid_slot, is_laid_step, are_laid_steps, are_laid_lines, is_laid_result, is_counted}
-use Rattle.aplc_gen.specs.Sound.{Ready, ready_after, is_variable, is_term, is_effect, are_effects, nothing_ready, effects_cost, is_line, are_lines}
+use Rattle.aplc_gen.specs.Sound.{Ready, ready_after, is_variable, is_term, is_effect, are_effects, is_line, are_lines}
 use Rattle.aplc_gen.specs.Emitted.{local, scope_at, operand, known_after, tree_code, width, result_code, count_down, leave_by, leave_code, Lead, out, to, computed, landing, lead_at, lead_of_line, known_number, lead_by, lead, is_entry, go_to, flag_code, not_known, pass_code, is_giving, result_guard, got_code, call_code, display_code, jump_code, step_code, work_code, known_behind, is_branch, known_through, branches, step_width, steps_width}
 use Rattle.aplc_gen.specs.Codes.{ending, Declares, line_depth, IsLine, exit_code, end_code, whole_line, Either, AreLines}
 use Rattle.aplc_gen.proofs.FormedTrees.{place_below, Stored, number_formed, beside_number, guard_formed, one, two, joined, local_int, local_value_int, local_flag_int, value_int, flag_int, slot_int, operand_formed, tree_formed}

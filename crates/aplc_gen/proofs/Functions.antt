@@ -1,7 +1,6 @@
 -- The induction: the code of lines does what runs say, however deep calls and lines nest.
 use Rattle.std.proofs.Common.{◌≡◌, ℕ, zero, suc, ◌+◌, ◌≤◌, List, [], ◌∷◌, ◌++◌, ⊎_elim, refl, sym, ap, ◌∙◌, subst, arith, append_assoc, append-nil, pos, Bool, true, false, cond, length}
 use Rattle.std.specs.Prelude.{Option, Some, None, map, slice_get}
-use Rattle.std.proofs.lemmas.Bool.Decides.{nat_tests}
 use Rattle.std.proofs.lemmas.List.{map-append}
 use Rattle.aplc_arr.specs.Arrays.{Array}
 use Rattle.aplc_cprof.specs.declared.syntax.CStmt.{CStmt}
@@ -18,13 +17,10 @@ use Rattle.aplc_names.specs.Runs.{place_of, after}
 use Rattle.aplc_core.specs.PlainSteps.{Effect, Term, Keep, Store, StoreAt, Call, ReadText, ReadNums, Show, Branch}
 use Rattle.aplc_core.specs.CoreRuns.{told, no_slots, CoreRoutine, PlainCore, steps_at, steps_done, begun, core_context, core_run}
 use Rattle.aplc_gen.specs.Shown.{place_shown}
-use Rattle.aplc_gen.specs.Sound.{nothing_ready, is_read, is_term, is_effect, are_effects, is_line, are_lines, effects_cost}
+use Rattle.aplc_gen.specs.Sound.{nothing_ready, is_line, are_lines}
 use Rattle.aplc_gen.specs.Layouts.{Layout, Site, the_routine, the_frame}
 use Rattle.aplc_gen.specs.Emitted.{Lead, out, to, computed, lead, may_lead, steps_lead, step_leads, lines_lead, steps_loop, step_loops, lines_loop, landing, first_line, is_entry, known_through, branches, go_to, leave_code, site_at}
 use Rattle.aplc_gen.specs.Emitted as emitted
-use Rattle.aplc_gen.specs.Sound as sound
-use Rattle.aplc_core.specs.PlainSteps as term
-use Rattle.aplc_core.specs.CoreRuns as corerun
 use Rattle.aplc_names.specs.States as states
 use Rattle.aplc_gen.specs.Laid.{are_laid_steps, are_laid_lines, known_at_end, steps_fall, lines_fall}
 use Rattle.aplc_gen.specs.Relation.{course, Fails, Waits, Bounds, Here, Between, CallsDo, owe, pay}

@@ -3,32 +3,31 @@ use Rattle.std.proofs.Common.{◌≡◌, ℕ, zero, suc, ◌+◌, ◌≤◌, Lis
 use Rattle.std.specs.Prelude.{Option, Some, None, drop, nat_le}
 use Rattle.std.proofs.lemmas.Bool.Decides.{nat_tests}
 use Rattle.aplc_arr.specs.Arrays.{Array}
-use Rattle.aplc_scalar.specs.declared.kind.FaultKind.{FaultKind}
 use Rattle.aplc_cprof.specs.declared.syntax.Int.TheVariants as int
 use Rattle.aplc_cprof.specs.declared.syntax.CStmt.{CStmt}
 use Rattle.aplc_cprof.specs.declared.syntax.CStmt.TheVariants as stmt
 use Rattle.aplc_cprof.specs.Machine.{Code, Caller, Is, read_int, Todo}
 use Rattle.aplc_cprof.specs.Machine as machine
-use Rattle.aplc_cprof.proofs.Rules.{Any, Runs, runs_less}
+use Rattle.aplc_cprof.proofs.Rules.{Any, runs_less}
 use Rattle.aplc_cprof.proofs.Matching.{Course, gives, faults, goes_on, Done, Stopped, Matches, stopped_then, matches_is, matches_less, matches_then, matches_none}
 use Rattle.aplc_cprof.proofs.Matching as matching
 use Rattle.aplc_cprof.proofs.Writes.{Written, written_here}
-use Rattle.aplc_names.specs.States.{Places, World, State, Marking, Outcome, Gives, and_then, is_among, on_account, ended}
+use Rattle.aplc_names.specs.States.{Places, World, State, Marking, Outcome, and_then, is_among, on_account, ended}
 use Rattle.aplc_names.specs.Eager.{Context, line_named, branch_to, branched}
 use Rattle.aplc_core.specs.PlainSteps.{Effect, Term, Keep, Store, StoreAt, Call, ReadText, ReadNums, Show, Branch}
 use Rattle.aplc_core.specs.CoreRuns.{Told, Slots, CoreRoutine, PlainCore, told, no_slots, term_value, step_done, steps_done, core_context, core_run}
 use Rattle.aplc_gen.specs.Sound.{Ready, ready_after, nothing_ready, is_term, is_effect, are_effects, effect_cost, effects_cost, term_cost, is_line, is_read}
 use Rattle.aplc_gen.specs.Sound as sound
-use Rattle.aplc_gen.specs.Layouts.{Layout, Site, the_routine, the_frame, line_place, base}
-use Rattle.aplc_gen.specs.Emitted.{Lead, out, to, computed, lead, landing, lead_at, lead_of_line, lead_by, known_number, operand, tree_code, known_after, known_behind, known_through, is_branch, step_code, jump_code, work_code}
+use Rattle.aplc_gen.specs.Layouts.{Site, the_routine, line_place, base}
+use Rattle.aplc_gen.specs.Emitted.{lead, landing, lead_at, lead_of_line, lead_by, known_number, operand, tree_code, known_after, known_behind, known_through, is_branch, step_code, jump_code, work_code}
 use Rattle.aplc_gen.specs.Laid.{is_laid_term, is_laid_step, are_laid_steps, step_falls, steps_fall}
-use Rattle.aplc_gen.specs.Relation.{course, Fails, Waits, IsNumber, Bounds, Here, Between, HasRoom, Sim, Computed, CallsDo, TreesDo, StepsDo, works, effect_works, bounds_behind, pay_if, owe, pay}
+use Rattle.aplc_gen.specs.Relation.{course, Fails, Waits, IsNumber, Bounds, Here, Between, HasRoom, Sim, Computed, TreesDo, StepsDo, works, effect_works, bounds_behind, pay_if, owe, pay}
 use Rattle.aplc_gen.specs.Codes.{ending, LeadsBy, LeadsOn, for_rest, LineOver, LineDoes, IsServed}
 use Rattle.aplc_core.specs.PlainSteps as term
 use Rattle.aplc_core.specs.CoreRuns as corerun
 use Rattle.aplc_gen.proofs.Writes.{set_does, quiet_written, quiet_todo, globals_local, locals_local, between_kept, Looser, looser_trans, between_looser}
 use Rattle.aplc_gen.proofs.Frames.{and_left, and_right}
-use Rattle.aplc_gen.proofs.Outcomes.{course_then, then_then, steps_cons}
+use Rattle.aplc_gen.proofs.Outcomes.{course_then, steps_cons}
 use Rattle.aplc_gen.proofs.Knowing.{knows_less, after_more}
 use Rattle.aplc_gen.proofs.Computing.{value_literal, here_computed}
 use Rattle.aplc_gen.proofs.Stepping.{is_same, static_of, branch_number, first_works, here_between}

@@ -1,6 +1,6 @@
 -- Whole programs: the C program behaves as the core run does.
 use Rattle.std.proofs.Common.{◌≡◌, ℕ, zero, suc, ◌<◌, ◌≤◌, List, [], ◌∷◌, ◌++◌, ◌⊎◌, inl, inr, refl, sym, ap, ◌∙◌, subst, arith, Bool, true, false, cond, length}
-use Rattle.std.specs.Prelude.{Option, Some, None, ◌&&◌, map, nat_eq, nat_le, slice_get, unwrap_or, option_and_then}
+use Rattle.std.specs.Prelude.{Option, Some, None, ◌&&◌, nat_eq, nat_le, slice_get, unwrap_or, option_and_then}
 use Rattle.std.proofs.lemmas.Bool.Decides.{nat_tests, eqb_tells}
 use Rattle.aplc_cprof.specs.declared.syntax.CStmt.{CStmt}
 use Rattle.aplc_cprof.specs.declared.syntax.CFunction.{CFunction}

@@ -5,9 +5,7 @@ use Rattle.std.specs.Prelude.{◌≡◌, ◌⊎◌, ℕ, ◌+◌, ◌<◌, List,
 use Rattle.aplc_scalar.specs.Scalar.{in_range}
 use Rattle.aplc_arr.specs.Arrays.{Array}
 use Rattle.aplc_cprof.specs.declared.syntax.Int.{Int}
-use Rattle.aplc_cprof.specs.declared.syntax.Int.TheVariants as int
 use Rattle.aplc_cprof.specs.declared.syntax.Buf.{Buf}
-use Rattle.aplc_cprof.specs.declared.syntax.Buf.TheVariants as buf
 use Rattle.aplc_cprof.specs.declared.syntax.CExpr.{CExpr}
 use Rattle.aplc_cprof.specs.declared.syntax.CExpr.TheVariants as expr
 use Rattle.aplc_cprof.specs.declared.syntax.CStmt.{CStmt}
@@ -15,7 +13,7 @@ use Rattle.aplc_cprof.specs.declared.syntax.CStmt.TheVariants as stmt
 use Rattle.aplc_cprof.specs.Machine.{State, Is, read_int, named_buf, held}
 use Rattle.aplc_names.specs.States.{Values, weight_of, is_among}
 use Rattle.aplc_core.specs.CoreRuns.{Slots}
-use Rattle.aplc_gen.specs.Owners.{Way, to_right, to_left, back, Owner, local_of, slot_of, global_of, statement, passed, Owners, Owns, Untouched, IsBelow, IsNone}
+use Rattle.aplc_gen.specs.Owners.{Way, Owner, slot_of, statement, Owners, Owns, Untouched, IsBelow, IsNone}
 
 -- ---- Homes
 

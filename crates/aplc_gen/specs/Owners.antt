@@ -1,5 +1,5 @@
 -- Who answers for the buffers of a heap.
-use Rattle.std.specs.Prelude.{◌≡◌, ◌⊎◌, ℕ, ◌<◌, List, Option, Some, None, slice_get, ℤ, [], ◌∷◌}
+use Rattle.std.specs.Prelude.{◌≡◌, ◌⊎◌, ℕ, ◌<◌, List, Option, Some, slice_get, ℤ, [], ◌∷◌}
 
 -- what is on its way between a caller and a function
 pub data Way : Type 0 where

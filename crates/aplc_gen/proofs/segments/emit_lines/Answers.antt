@@ -1,8 +1,8 @@
 use Rattle.std.proofs.Common.{arith, ap, sym, ◌∙◌, ◌<◌, ◌≤◌, ◌+◌, length, map}
 use Rattle.std.proofs.lemmas.Result.{on_ok_weaker}
 use Rattle.aplc_core.specs.PlainSteps.{effect_of}
-use Rattle.aplc_gen.specs.Layouts.{the_routine, base}
-use Rattle.aplc_gen.specs.Emitted.{go_to, leave_code, lines_width}
+use Rattle.aplc_gen.specs.Layouts.{the_routine}
+use Rattle.aplc_gen.specs.Emitted.{go_to, leave_code}
 use Rattle.aplc_gen.specs.Writing.{Spot, site_of, added}
 use Rattle.aplc_gen.proofs.Arms.{count_at, line_at, width_at, blank_over, goes_to, line_ends, line_goes, lines_over}
 use Rattle.aplc_gen.proofs.segments.emit_lines.Goals as goal

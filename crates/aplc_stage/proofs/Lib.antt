@@ -1,0 +1,15 @@
+pub mod Lists
+pub mod Tests
+pub mod Setting
+pub mod Counted
+pub mod Shapes
+pub mod Strides
+pub mod Heaps
+pub mod Filled
+pub mod Leads
+pub mod Elements
+pub mod Scalars
+pub mod Monadics
+pub mod Parts
+pub mod Commons
+pub mod Pairs

@@ -62,13 +62,13 @@ pub record Fillable (test : Test) (steps : Steps) (n m k : ℕ) (lengths : List 
   pub stands : StandsBeside test steps tables n m s array k
   pub keeps : IfOk (computed p) IsArray
 
-hold_length : (s : State) (xs : List Int) (ns : List ℕ) → Hold s xs ns → length xs ≡ length ns
+pub hold_length : (s : State) (xs : List Int) (ns : List ℕ) → Hold s xs ns → length xs ≡ length ns
 hold_length s [] [] h = refl
 hold_length s [] (n ∷ ns) h = absurd h
 hold_length s (x ∷ xs) [] h = absurd h
 hold_length s (x ∷ xs) (n ∷ ns) h = ap suc (hold_length s xs ns h.1)
 
-some_cells : (ns : List ℕ) → 1 ≤ length ns → cells_for ns ≡ product ns
+pub some_cells : (ns : List ℕ) → 1 ≤ length ns → cells_for ns ≡ product ns
 some_cells [] le = absurd (omega (arith, le))
 some_cells (n ∷ ns) le = refl
 

@@ -9,7 +9,9 @@ pub mod Filled
 pub mod Leads
 pub mod Elements
 pub mod Scalars
-pub mod Monadics
 pub mod Parts
+pub mod Monadics
 pub mod Commons
 pub mod Pairs
+pub mod Dyadics
+pub mod Freed

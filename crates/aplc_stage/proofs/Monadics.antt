@@ -53,12 +53,45 @@ mono_prepared f a form kind =
     ap (λ b. needs b Domain (Ok (mono_array f a))) test
 
 -- of a number it is a number
-pub mono_given : (f : ScalarFn) (z : ℤ) → is_monadic f ≡ true → computed (Ok (mono_array f (one_number Num z))) ≡ one_given Num (monadic f z)
-mono_given f z form = by (monadic f z)
+pub mono_given : (f : ScalarFn) (z : ℤ) → computed (Ok (mono_array f (one_number Num z))) ≡ one_given Num (monadic f z)
+mono_given f z = by (monadic f z)
   where
     by : (r : Given) → computed (Ok record { kind = Num; shape = []; element = λ is. r }) ≡ one_given Num r
     by (Ok y) = refl
     by (Err e) = refl
+
+-- ---- A number
+
+few_steps : (p : Prepared) → mono_steps ≤ most_steps 0 p
+few_steps (Ok d) = omega arith
+few_steps (Err e) = omega arith
+
+number_in : (x : Array) (z : ℤ) → x ≡ one_number Num z → IsArray x → IsInRange z
+number_in x z e array = cells_in (one_number Num z) (subst IsArray e array) 0 z refl
+
+pub mono_number : (f : ScalarFn) (b0 b1 : Blocks) (a v : Int) → is_monadic f ≡ true → AreGiven (scope_of a) b0 → EmitsMono (monadic f) mono_steps mono_depth b0 b1 a v → Computes (MonadicOf f (staged.Scalar a)) (scope_of a) 0 b0 b1 (staged.Scalar v)
+mono_number f b0 b1 a v form given em = record {
+  code = em.code;
+  grown = em.grown;
+  formed = λ sc room within are bufs more more_bufs le.
+      em.formed sc room (within_less no_names (scope_of a) sc (omega arith) (omega arith) (omega arith) (omega arith) within)
+      (name_declared a b0 sc given within (let i = em.grown.ints in omega (arith, i, more)), tt) tt more more_bufs (omega (arith, le));
+  fresh = em.fresh;
+  ranked = tt;
+  axes = refl;
+  runs = λ c s p from. number_runs c s p from;
+}
+  where
+    number_runs : (c : Code) (s : State) (p : Prepared) → MonadicOf f (staged.Scalar a) c.tables s p → Does c (Making b0.ints b0.bufs (cells_of_prepared p) s) (most_steps 0 p) em.code s (Comes c.tables b0.ints b0.bufs (staged.Scalar v) p s) (Faults b0.ints b0.bufs p s)
+    number_runs c s p from =
+        let x = from.argument in
+        let z = from.holds.cells.0 in
+        let is : x ≡ one_number x.kind z = scalar_is c.tables s a x from.holds in
+        let whole : x ≡ one_number Num z = is ∙ ap (λ k. one_number k z) from.kind in
+        let prepared : p ≡ Ok (mono_array f (one_number Num z)) = from.prepared ∙ ap (each_monadic f) whole ∙ mono_prepared f (one_number Num z) form refl in
+        let keeps : IfOk (computed p) IsArray = subst (λ (q : Prepared). IfOk (computed q) IsArray) (sym from.prepared) (keeps-each_monadic f x from.holds.array) in
+        let inside : IsInRange z = number_in x z whole from.holds.array in
+        scalar_runs c b0.ints b0.bufs mono_steps 0 em.code s v Num (monadic f z) p (ap computed prepared ∙ mono_given f z) keeps (few_steps p) (em.runs c s z from.holds.cells.2 inside)
 
 -- ---- The cells of an array
 

@@ -61,9 +61,9 @@ suits_form g Char e = absurd (cc e)
 
 -- ---- Elements
 
-few_steps : (g : ScalarFn) → dyad_steps g ≤ 4
-few_steps f.Residue = omega arith
-few_steps g = omega arith
+pub few_steps_of : (g : ScalarFn) → dyad_steps g ≤ 4
+few_steps_of f.Residue = omega arith
+few_steps_of g = omega arith
 
 -- whatever a new buffer holds, code stands for the elements of an array beside others of this shape
 pub record ReadsBeside (test : Test) (steps : Steps) (tables : List (List ℤ)) (n m : ℕ) (s : State) (ns : List ℕ) (a : Array) : Type 0 where
@@ -72,7 +72,7 @@ pub record ReadsBeside (test : Test) (steps : Steps) (tables : List (List ℤ)) 
 
 pub pair_stands : (g : ScalarFn) (l r : Test) (i j : Steps) (tables : List (List ℤ)) (n m : ℕ) (s : State) (a b : Array) (ns : List ℕ) → a.kind ≡ b.kind → ReadsBeside l i tables n m s ns a → ReadsBeside r j tables n m s ns b → StandsBeside (dyad_test (dyadic g) l r) (steps_of_two (dyad_steps g) i j) tables n m s (pair_array g a b ns) 6
 pair_stands g l r i j tables n m s a b ns same left right = record {
-  takes = λ t other st. let x = left.takes t other st in let y = right.takes t other st in let z = few_steps g in omega (arith, x, y, z);
+  takes = λ t other st. let x = left.takes t other st in let y = right.takes t other st in let z = few_steps_of g in omega (arith, x, y, z);
   items = λ t other st is index.
       ap (λ x. where_both (dyadic g) x (r tables t is)) (left.items t other st is index)
       ∙ ap (λ y. where_both (dyadic g) (Some (Ok (extended a ns is))) y) (right.items t other st is index)

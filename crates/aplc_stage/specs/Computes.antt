@@ -149,10 +149,10 @@ pub record CopyOf (x : Staged) (tables : List (List ℤ)) (s : State) (p : Prepa
 -- ---- Freeing
 
 -- the value's buffer is freed, if it has one, and all else is as it was
-abbrev pub Freed : List (List ℤ) → ℕ → ℕ → Staged → Array → State → State → Type 0
-Freed tables n m (staged.Cells (origin.Buffer p) lengths) a s t =
+abbrev pub Freed : ℕ → ℕ → Staged → Array → State → State → Type 0
+Freed n m (staged.Cells (origin.Buffer p) lengths) a s t =
     (b : ℕ) × (named_buf p s ≡ Some b) × Stays n m (with_heap (slice_set s.heap b None) s) t × (held t + cells_for a.shape ≡ held s)
-Freed tables n m x a s t = Stays n m s t
+Freed n m x a s t = Stays n m s t
 
 -- all that was given before is as it was, but buffers may be freed
 pub record Freeing (n m : ℕ) (s t : State) : Type 0 where
@@ -170,4 +170,4 @@ pub record Frees (g : Scope) (old new : Blocks) (x : Staged) : Type 0 where
   pub grown : Grown code old new
   pub names : (new.ints ≡ old.ints) × (new.bufs ≡ old.bufs)
   pub formed : IsFormed g [] [] new 0 code
-  pub runs : (c : Code) (s : State) (a : Array) → Holds c.tables s x a → Does c (Freeing old.ints old.bufs s) 1 code s (Freed c.tables old.ints old.bufs x a s) NoFault
+  pub runs : (c : Code) (s : State) (a : Array) → Holds c.tables s x a → Does c (Freeing old.ints old.bufs s) 1 code s (Freed old.ints old.bufs x a s) NoFault

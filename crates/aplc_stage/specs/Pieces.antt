@@ -1,5 +1,5 @@
 -- The code of the parts of a value: counts, lengths, which of two arrays is extended, and elements in a buffer of their own.
-use Rattle.std.specs.Prelude.{◌≡◌, ℕ, ◌+◌, ◌*◌, ◌<◌, ◌≤◌, ◌^◌, List, [], ◌∷◌, ◌++◌, length, Option, Some, None, Ok, Err, Bool, true, false, ℤ, pos}
+use Rattle.std.specs.Prelude.{◌≡◌, max, ℕ, ◌+◌, ◌*◌, ◌<◌, ◌≤◌, ◌^◌, List, [], ◌∷◌, ◌++◌, length, Option, Some, None, Ok, Err, Bool, true, false, ℤ, pos}
 use Rattle.aplc_scalar.specs.declared.kind.FaultKind.{FaultKind}
 use Rattle.aplc_scalar.specs.declared.kind.FaultKind.TheVariants as fault
 use Rattle.aplc_scalar.specs.Scalar.{truth}
@@ -29,7 +29,7 @@ use Rattle.aplc_step.specs.Steppers.{StepsOver, zeros}
 use Rattle.aplc_step.specs.Wholes.{some_element}
 use Rattle.aplc_stage.specs.declared.staged.Staged.{Staged}
 use Rattle.aplc_stage.specs.declared.staged.Staged.TheVariants as staged
-use Rattle.aplc_stage.specs.Computes.{with_heap, Making, NoFault}
+use Rattle.aplc_stage.specs.Computes.{with_heap, Making, AreFresh, NoFault}
 
 -- ---- Statements
 
@@ -155,6 +155,13 @@ pub record Conformed (n m : ℕ) (lengths : List Int) (keeps_left keeps_right : 
   pub left : Beside keeps_left t ms shape
   pub right : Beside keeps_right t ns shape
 
+-- the variables hold the lengths that both have together
+pub record SharedLengths (n m : ℕ) (lengths : List Int) (ms ns : List ℕ) (s t : State) : Type 0 where
+  pub stays : Stays n m s t
+  pub shape : List ℕ
+  pub common : common_shape ms ns ≡ Some shape
+  pub held : Hold t lengths shape
+
 -- they do not conform
 pub record Unlike (n m : ℕ) (ms ns : List ℕ) (s : State) (k : FaultKind) (t : State) : Type 0 where
   pub stays : Stays n m s t
@@ -172,6 +179,17 @@ pub record Conforms (old new : Blocks) (left right lengths : List Int) (keeps_le
   pub names : new.ints ≡ old.ints + length left + 2
   pub formed : IsFormed no_names (left ++ right) [] new (4 + length left) code
   pub runs : (c : Code) (s : State) (ms ns : List ℕ) → Hold s left ms → Hold s right ns → Does c (Stays old.ints old.bufs s) (length left + 5) code s (Conformed old.ints old.bufs lengths keeps_left keeps_right ms ns s) (Unlike old.ints old.bufs ms ns s)
+
+-- code that finds the lengths of two values together: those of the array beside a scalar, which need no test, or those on
+-- which two arrays of one rank conform
+pub record Shares (old new : Blocks) (left right lengths : List Int) : Type 0 where
+  pub code : List CStmt
+  pub grown : Grown code old new
+  pub bufs : new.bufs ≡ old.bufs
+  pub fresh : AreFresh old.ints new.ints lengths
+  pub as_many : length lengths ≡ max (length left) (length right)
+  pub formed : IsFormed no_names (left ++ right) [] new (4 + length lengths) code
+  pub runs : (c : Code) (s : State) (ms ns : List ℕ) → Hold s left ms → Hold s right ns → Does c (Stays old.ints old.bufs s) (length lengths + 5) code s (SharedLengths old.ints old.bufs lengths ms ns s) (Unlike old.ints old.bufs ms ns s)
 
 -- ---- A number and a character
 

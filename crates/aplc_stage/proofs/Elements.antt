@@ -111,7 +111,7 @@ holds_stay n m tables s t (staged.Cells from lengths) a old f h = record {
 abbrev number_when : Bool → ℤ → Option Given
 number_when b z = cond b (Some (Ok z)) None
 
-in_some : (b : Bool) (z : ℤ) → b ≡ true → number_when b z ≡ Some (Ok z)
+pub in_some : (b : Bool) (z : ℤ) → b ≡ true → number_when b z ≡ Some (Ok z)
 in_some b z e = ap (λ c. number_when c z) e
 
 -- the number in a variable

@@ -18,7 +18,7 @@ use Rattle.aplc_cprof.specs.declared.syntax.CStmt.TheVariants as stmt
 use Rattle.aplc_cprof.specs.Blocks.{Blocks}
 use Rattle.aplc_cprof.specs.WellFormed.{Scope, is_buf, is_expr}
 use Rattle.aplc_cprof.specs.Machine.{State, Code, Todo, Is, read_int, cells_of, put, settled}
-use Rattle.aplc_cprof.specs.Frames.{AreOld, around_of, Stays, Hold, with_buffer}
+use Rattle.aplc_cprof.specs.Frames.{IsOldBuf, AreOld, around_of, Stays, Hold, with_buffer}
 use Rattle.aplc_cprof.specs.Emitted.{no_names, Grown, IsFormed}
 use Rattle.aplc_cprof.proofs.Values.{value_Var}
 use Rattle.aplc_cprof.proofs.Forms.{is_Cells}
@@ -124,6 +124,13 @@ module _ (c : Code) (test : Test) (steps : Steps) (n m : ℕ) (s : State) (d : D
           }
 
 -- ---- The builder's states
+
+-- a buffer variable that was given just now
+pub new_buffer : (b1 b2 b3 : Blocks) (p : Buf) (l : List CStmt) → p ≡ buf.Local b1.bufs → b2 ≡ record b1 { bufs = b1.bufs + 1 } → b3 ≡ record b2 { inner = l } → IsOldBuf b3.bufs p
+new_buffer b1 b2 b3 p l ep e2 e3 =
+    let i : b2.bufs ≡ b1.bufs + 1 = ap (λ (b : Blocks). b.bufs) e2 in
+    let j : b3.bufs ≡ b2.bufs = ap (λ (b : Blocks). b.bufs) e3 in
+    subst (λ (q : Buf). IsOldBuf b3.bufs q) (sym ep) (omega (arith, i, j))
 
 pub gather_built : (test : Test) (steps : Steps) (g : Scope) (depth : ℕ) (b0 b1 b2 b3 b4 : Blocks) (lengths : List Int) (v : Int) (p : Buf) → AreOld b0.ints lengths → Counts b0 b1 lengths v → p ≡ buf.Local b1.bufs → b2 ≡ record b1 { bufs = b1.bufs + 1 } → b3 ≡ record b2 { inner = b2.inner ++ stmt.Cells p (expr.Var v) ∷ [] } → Fills test steps g depth b3 b4 lengths p → Gathers test steps g depth b0 b4 lengths (staged.Cells (origin.Buffer p) lengths)
 gather_built test steps g depth b0 b1 b2 b3 b4 lengths v p old cn ep e2 e3 fl = record {

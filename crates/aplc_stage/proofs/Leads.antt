@@ -21,9 +21,10 @@ use Rattle.aplc_cprof.proofs.Emitted.{fresh_declared, formed_append, formed_more
 use Rattle.aplc_cprof.proofs.Stores.{held_new, get_last}
 use Rattle.aplc_collect.specs.Elements.{Test, Steps}
 use Rattle.aplc_step.specs.declared.stepper.Origin.TheVariants as origin
+use Rattle.aplc_step.specs.Steppers.{AreFresh}
 use Rattle.aplc_stage.specs.declared.staged.Staged.{Staged}
 use Rattle.aplc_stage.specs.declared.staged.Staged.TheVariants as staged
-use Rattle.aplc_stage.specs.Computes.{with_heap, Making, cells_for, Made, AreFresh, IsNew, most_steps, shape_steps, code_depth, Comes, Faults, Computes, cells_of_prepared}
+use Rattle.aplc_stage.specs.Computes.{with_heap, Making, cells_for, Made, IsNew, most_steps, shape_steps, code_depth, Comes, Faults, Computes, cells_of_prepared}
 use Rattle.aplc_stage.specs.Pieces.{StandsBeside, Gathered, FaultGathered, Gathers}
 use Rattle.aplc_stage.proofs.Heaps.{hold_heap, none_made}
 

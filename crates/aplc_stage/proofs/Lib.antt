@@ -10,7 +10,10 @@ pub mod Leads
 pub mod Elements
 pub mod Scalars
 pub mod Parts
+pub mod Chains
+pub mod Ones
 pub mod Monadics
+pub mod Copies
 pub mod Commons
 pub mod Pairs
 pub mod Dyadics

@@ -1,4 +1,4 @@
--- Scalar functions of one argument on values in memory, and copies.
+-- Scalar functions of one argument on values in memory.
 use Rattle.std.proofs.Common.{◌≡◌, ℕ, ◌+◌, ◌*◌, ◌<◌, ◌≤◌, List, [], ◌∷◌, ◌++◌, length, refl, sym, ap, ◌∙◌, subst, arith, ℤ, Bool, true, false}
 use Rattle.std.specs.Prelude.{Some, Result, Ok, Err, IfOk, max, ◌&&◌, ◌^◌}
 use Rattle.aplc_scalar.specs.declared.kind.Kind.{Kind}
@@ -26,18 +26,19 @@ use Rattle.aplc_collect.specs.Scalars.{EmitsMono, mono_steps, mono_depth}
 use Rattle.aplc_collect.specs.Fused.{mono_test, steps_of_one, where_one}
 use Rattle.aplc_step.specs.declared.stepper.Origin.{Origin}
 use Rattle.aplc_step.specs.declared.stepper.Origin.TheVariants as origin
-use Rattle.aplc_step.specs.Steppers.{stepper_test, stepper_scope, StepsOver}
+use Rattle.aplc_step.specs.declared.stepper.Stepper.{Stepper}
+use Rattle.aplc_step.specs.Steppers.{AreFresh, stepper_test, stepper_scope, StepsOver}
 use Rattle.aplc_step.specs.Wholes.{whole_steps, MakesStepper}
 use Rattle.aplc_stage.specs.declared.staged.Staged.{Staged}
 use Rattle.aplc_stage.specs.declared.staged.Staged.TheVariants as staged
 use Rattle.aplc_stage.specs.Staged.{scope_of_staged, Holds}
-use Rattle.aplc_stage.specs.Computes.{Making, cells_of_prepared, most_steps, AreFresh, Comes, Faults, Computes, MonadicOf, NoFault}
+use Rattle.aplc_stage.specs.Computes.{Making, cells_of_prepared, most_steps, Comes, Faults, Computes, MonadicOf, NoFault}
 use Rattle.aplc_stage.specs.Pieces.{OwnLengths, StandsBeside, Gathers}
 use Rattle.aplc_stage.proofs.Setting.{locals_old, locals_many}
 use Rattle.aplc_stage.proofs.Elements.{IsOldStaged, older, given_names, cells_in, cells_few, holds_stay, cell_beside, at_is}
 use Rattle.aplc_stage.proofs.Scalars.{one_number, one_given, scalar_is, scalar_runs}
 use Rattle.aplc_stage.proofs.Parts.{name_declared, lengths_declared, locals_fresh}
-use Rattle.aplc_stage.proofs.Leads.{Leads, leads_then, Fillable, computes_by}
+use Rattle.aplc_stage.proofs.Ones.{ArgumentOf, computes_from, one_cells}
 
 both_hold : (a b : Bool) → a ≡ true → b ≡ true → (a && b) ≡ true
 both_hold true b h k = k
@@ -95,90 +96,12 @@ mono_number f b0 b1 a v form given em = record {
 
 -- ---- The cells of an array
 
--- where all stays, the argument does
-abbrev pub later : (f : ScalarFn) (x : Staged) (n m : ℕ) (tables : List (List ℤ)) (s u : State) (p : Prepared) → IsOldStaged n m x → Stays n m s u → MonadicOf f x tables s p → MonadicOf f x tables u p
-later f x n m tables s u p old st h = record { argument = h.argument; holds = holds_stay n m tables s u x h.argument old st h.holds; kind = h.kind; prepared = h.prepared }
-
--- and lengths of its own for the new array
-record Shaped (f : ScalarFn) (x : Staged) (own : List Int) (tables : List (List ℤ)) (s : State) (p : Prepared) : Type 0 where
-  pub of : MonadicOf f x tables s p
-  pub held : Hold s own of.argument.shape
-
-module _ (f : ScalarFn) (from : Origin) (lengths own strides : List Int) (base : Int) (b0 b1 b2 : Blocks) (form : is_monadic f ≡ true) (given : AreGiven (scope_of_staged (staged.Cells from lengths)) b0) (lens : OwnLengths b0 b1 lengths own) (over : MakesStepper b1 b2 lengths base strides) where
-  abbrev x : Staged
-  x = staged.Cells from lengths
-
-  abbrev g : Scope
-  g = scope_of_staged x
-
-  abbrev test : Test
-  test = mono_test (monadic f) (stepper_test from base strides)
-
-  abbrev steps : Steps
-  steps = steps_of_one mono_steps one_step
-
-  old : IsOldStaged b0.ints b0.bufs x
-  old = given_names x b0 given
-
-  kept : IsOldStaged b1.ints b1.bufs x
-  kept = older b0 b1 x lens.grown.ints lens.grown.bufs old
-
-  own_old : AreOld b1.ints own
-  own_old = subst (λ (l : List Int). AreOld b1.ints l) (sym lens.lengths_are) (locals_old b1.ints b0.ints lengths (omega (arith, lens.names)))
-
-  shaped : Leads (MonadicOf f x) (Shaped f x own) g (length lengths) 0 b0 b1
-  shaped = record {
-    code = lens.code;
-    grown = lens.grown;
-    formed = λ sc room within are bufs more more_bufs le.
-        lens.formed sc room (within_less no_names g sc (omega arith) (omega arith) (omega arith) (omega arith) within)
-        (lengths_declared x b0 sc given within (let i = lens.grown.ints in omega (arith, i, more))) tt more more_bufs le;
-    runs = λ c s p h.
-        does_weaken c (Stays b0.ints b0.bufs s) (Stays b0.ints b0.bufs s) (length lengths) (length lengths) lens.code s (λ t. Stays b0.ints b0.bufs s t × Hold t own h.argument.shape) (λ t. Stays b0.ints b0.bufs s t × Shaped f x own c.tables t p) NoFault (λ i t. Stays b0.ints b0.bufs s t × (computed p ≡ Err i)) (λ u y. y)
-        (λ u y. (y.0, record { of = later f x b0.ints b0.bufs c.tables s u p old y.0 h; held = y.1 })) (λ i u y. absurd y) (omega arith) (lens.runs c s h.argument.shape h.holds.shape);
-  }
-
-  -- behind the stepper code stands for the elements
-  stands_is : (tables : List (List ℤ)) (s : State) (p : Prepared) (h : MonadicOf f x tables s p) → IsOldStaged b2.ints b2.bufs x → StepsOver lengths base strides s h.argument.shape (place h.argument.shape) (length h.argument.cells) → StandsBeside test steps tables b2.ints b2.bufs s (mono_array f h.argument) 3
-  stands_is tables s p h names o = record {
-    takes = λ u other st. omega arith;
-    items = λ u other st is index.
-        ap (where_one (monadic f)) (cell_beside b2.ints b2.bufs (Some other ∷ []) tables s u from base strides lengths h.argument h.argument.shape is (place h.argument.shape) names.0 over.base_given over.strides_given names.1 h.holds.array h.holds.cells o st index)
-        ∙ ap (λ z. Some (monadic f z)) (at_is h.argument is h.holds.array index);
-  }
-
-  fillable : (tables : List (List ℤ)) (s u : State) (p : Prepared) (h : Shaped f x own tables s p) → Stays b1.ints b1.bufs s u → StepsOver lengths base strides u h.of.argument.shape (place h.of.argument.shape) (length h.of.argument.cells) → Fillable test steps b2.ints b2.bufs 3 own tables u p
-  fillable tables s u p h st o = record {
-    array = mono_array f h.of.argument;
-    is = h.of.prepared ∙ mono_prepared f h.of.argument form h.of.kind;
-    shape = hold_stays b1.ints b1.bufs s u own h.of.argument.shape st own_old h.held;
-    fits = h.of.holds.array.fits;
-    stands = stands_is tables u p (later f x b1.ints b1.bufs tables s u p kept st h.of) (older b1 b2 x over.grown.ints over.grown.bufs kept) o;
-    keeps = subst (λ (q : Prepared). IfOk (computed q) IsArray) (sym h.of.prepared) (keeps-each_monadic f h.of.argument h.of.holds.array);
-  }
-
-  filled : Leads (Shaped f x own) (Fillable test steps b2.ints b2.bufs 3 own) g (whole_steps (length lengths)) (1 + length lengths) b1 b2
-  filled = record {
-    code = over.code;
-    grown = over.grown;
-    formed = λ sc room within are bufs more more_bufs le.
-        over.formed sc room (within_less no_names g sc (omega arith) (omega arith) (omega arith) (omega arith) within)
-        (lengths_declared x b0 sc given within (let i = lens.grown.ints in let j = over.grown.ints in omega (arith, i, j, more))) tt more more_bufs le;
-    runs = λ c s p h.
-        let a = h.of.argument in
-        let whole : product a.shape ≤ length a.cells = let w = h.of.holds.array.whole in omega (arith, w) in
-        does_weaken c (Stays b1.ints b1.bufs s) (Stays b1.ints b1.bufs s) (whole_steps (length lengths)) (whole_steps (length lengths)) over.code s (λ t. Stays b1.ints b1.bufs s t × StepsOver lengths base strides t a.shape (place a.shape) (length a.cells)) (λ t. Stays b1.ints b1.bufs s t × Fillable test steps b2.ints b2.bufs 3 own c.tables t p) (λ i t. ⊥) (λ i t. Stays b1.ints b1.bufs s t × (computed p ≡ Err i)) (λ u y. y)
-        (λ u y. (y.0, fillable c.tables s u p h y.0 y.1)) (λ i u y. absurd y) (omega arith)
-        (over.runs c s a.shape (length a.cells) h.of.holds.shape whole (cells_few a h.of.holds.array));
-  }
-
-  pub mono_cells : (b3 : Blocks) → 1 ≤ length lengths → ((sc : Scope) → IsWithin g sc → IsWithin (stepper_scope from base strides) sc) → Gathers test steps (stepper_scope from base strides) (max (2 + length strides) mono_depth) b2 b3 own (staged.Cells (origin.Buffer (buf.Local b2.bufs)) own) → Computes (MonadicOf f x) g (length lengths) b0 b3 (staged.Cells (origin.Buffer (buf.Local b2.bufs)) own)
-  mono_cells b3 some within_g last =
-      let r = length lengths in
-      let many : length own ≡ r = ap length lens.lengths_are ∙ locals_many b0.ints lengths in
-      let deep = over.as_many in
-      computes_by (MonadicOf f x) test steps g (stepper_scope from base strides) (max (2 + length strides) mono_depth) 3 (r + whole_steps r) (1 + r) r b0 b2 b3 own
-      (leads_then (MonadicOf f x) (Shaped f x own) (Fillable test steps b2.ints b2.bufs 3 own) g r (whole_steps r) 0 (1 + r) b0 b1 b2 (omega arith) shaped filled)
-      last (omega arith) (omega arith) (omega arith) (omega (arith, many, deep)) many some
-      (subst (λ (l : List Int). AreFresh b0.ints b2.ints l) (sym lens.lengths_are) (locals_fresh b0.ints b2.ints b0.ints lengths (omega arith) (omega (arith, lens.names, over.grown.ints))))
-      within_g
+pub mono_cells : (f : ScalarFn) (from : Origin) (lengths own : List Int) (a : Stepper) (b0 b1 b2 b3 : Blocks) (v : Staged) → is_monadic f ≡ true → 1 ≤ length lengths → AreGiven (scope_of_staged (staged.Cells from lengths)) b0 → OwnLengths b0 b1 lengths own → a.from ≡ from → MakesStepper b1 b2 lengths a.base a.strides → Gathers (mono_test (monadic f) (stepper_test a.from a.base a.strides)) (steps_of_one mono_steps one_step) (stepper_scope a.from a.base a.strides) (max (2 + length a.strides) mono_depth) b2 b3 own v → Computes (MonadicOf f (staged.Cells from lengths)) (scope_of_staged (staged.Cells from lengths)) (length lengths) b0 b3 v
+mono_cells f from lengths own a b0 b1 b2 b3 v form some given lens ef over last =
+    let x : Staged = staged.Cells from lengths in
+    let many = over.as_many in
+    computes_from (ArgumentOf (each_monadic f) (λ b. b.kind ≡ Num) x) (MonadicOf f x) (scope_of_staged x) (length lengths) b0 b3 v
+    (λ tables s p h. record { argument = h.argument; holds = h.holds; suits = h.kind; prepared = h.prepared })
+    (one_cells (each_monadic f) (λ b. b.kind ≡ Num) (λ b. Num) (monadic f) (λ b kind. mono_prepared f b form kind) (keeps-each_monadic f) from lengths own a.strides a.base b0 b1 b2 given lens over (mono_test (monadic f) (stepper_test from a.base a.strides)) (steps_of_one mono_steps one_step)
+    (λ tables t is z e. ap (where_one (monadic f)) e) (λ tables t. omega arith) (max (2 + length a.strides) mono_depth) b3 v some (omega (arith, many))
+    (subst (λ (o : Origin). Gathers (mono_test (monadic f) (stepper_test o a.base a.strides)) (steps_of_one mono_steps one_step) (stepper_scope o a.base a.strides) (max (2 + length a.strides) mono_depth) b2 b3 own v) ef last))

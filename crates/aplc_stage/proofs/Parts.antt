@@ -15,11 +15,11 @@ use Rattle.aplc_cprof.proofs.Paths.{Does, does_weaken}
 use Rattle.aplc_cprof.proofs.Frames.{given_left, given_right, stays_none}
 use Rattle.aplc_cprof.proofs.Emitted.{is_below, within_less, within_left, within_right}
 use Rattle.aplc_collect.specs.Elements.{scope_of}
-use Rattle.aplc_step.specs.Steppers.{origin_scope, scope_of_all}
+use Rattle.aplc_step.specs.Steppers.{AreFresh, origin_scope, scope_of_all}
 use Rattle.aplc_stage.specs.declared.staged.Staged.{Staged}
 use Rattle.aplc_stage.specs.declared.staged.Staged.TheVariants as staged
 use Rattle.aplc_stage.specs.Staged.{lengths_of, scope_of_staged}
-use Rattle.aplc_stage.specs.Computes.{NoFault, AreFresh}
+use Rattle.aplc_stage.specs.Computes.{NoFault}
 use Rattle.aplc_stage.specs.Pieces.{with_code, locals, copies, OwnLengths}
 use Rattle.aplc_stage.proofs.Setting.{locals_declared, wholes, as_ints, as_lengths, Took, copies_run, copies_formed}
 

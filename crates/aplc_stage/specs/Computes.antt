@@ -18,6 +18,7 @@ use Rattle.aplc_cprof.specs.Frames.{IsFresh, Stays}
 use Rattle.aplc_cprof.specs.Emitted.{Grown, IsFormed}
 use Rattle.aplc_cprof.proofs.Paths.{Does}
 use Rattle.aplc_step.specs.declared.stepper.Origin.TheVariants as origin
+use Rattle.aplc_step.specs.Steppers.{AreFresh}
 use Rattle.aplc_stage.specs.declared.staged.Staged.{Staged}
 use Rattle.aplc_stage.specs.declared.staged.Staged.TheVariants as staged
 use Rattle.aplc_stage.specs.Staged.{IsRanked, rank_of, Holds}
@@ -60,10 +61,6 @@ pub record Made (tables : List (List ℤ)) (n m : ℕ) (x : Staged) (a : Array) 
   pub held_more : held t ≡ held s + cells_for a.shape
 
 -- ---- Names
-
-abbrev pub AreFresh : ℕ → ℕ → List Int → Type 0
-AreFresh n m [] = Unit {0}
-AreFresh n m (x ∷ xs) = IsFresh n m x × AreFresh n m xs
 
 -- a local buffer variable, not given before the n-th, and given before the m-th
 abbrev pub IsFreshBuf : ℕ → ℕ → Buf → Type 0

@@ -25,11 +25,11 @@ use Rattle.aplc_cprof.specs.Emitted.{on_values, no_names, Grown, AreInts, IsForm
 use Rattle.aplc_cprof.proofs.Paths.{Does}
 use Rattle.aplc_collect.specs.Elements.{Test, Steps}
 use Rattle.aplc_step.specs.declared.stepper.Origin.TheVariants as origin
-use Rattle.aplc_step.specs.Steppers.{StepsOver, zeros}
+use Rattle.aplc_step.specs.Steppers.{AreFresh, StepsOver, zeros}
 use Rattle.aplc_step.specs.Wholes.{some_element}
 use Rattle.aplc_stage.specs.declared.staged.Staged.{Staged}
 use Rattle.aplc_stage.specs.declared.staged.Staged.TheVariants as staged
-use Rattle.aplc_stage.specs.Computes.{with_heap, Making, AreFresh, NoFault}
+use Rattle.aplc_stage.specs.Computes.{with_heap, Making, NoFault}
 
 -- ---- Statements
 

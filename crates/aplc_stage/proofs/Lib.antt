@@ -15,3 +15,5 @@ pub mod Commons
 pub mod Pairs
 pub mod Dyadics
 pub mod Freed
+pub mod Given
+pub mod Displayed

@@ -13,5 +13,10 @@ pub mod Parts
 pub mod Monadics
 pub mod Commons
 pub mod Pairs
+pub mod Chains
 pub mod Dyadics
+pub mod Besides
+pub mod Couples
+pub mod Sharing
+pub mod Unlikes
 pub mod Freed

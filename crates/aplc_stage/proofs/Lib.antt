@@ -19,4 +19,5 @@ pub mod Besides
 pub mod Couples
 pub mod Sharing
 pub mod Unlikes
+pub mod Calls
 pub mod Freed

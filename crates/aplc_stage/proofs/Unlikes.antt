@@ -24,7 +24,7 @@ use Rattle.aplc_cprof.specs.Frames.{AreGiven, AreOld, Stays, Hold}
 use Rattle.aplc_cprof.specs.Emitted.{joint, no_names, Grown, IsWithin, AreInts, IsFormed}
 use Rattle.aplc_cprof.proofs.Values.{value_Lit}
 use Rattle.aplc_cprof.proofs.Paths.{Does, does_then, does_weaken}
-use Rattle.aplc_cprof.proofs.Frames.{given_left, given_right, after_set, put_at, stays_none, stays_set, hold_stays}
+use Rattle.aplc_cprof.proofs.Frames.{given_left, given_right, after_set, put_at, are_old_more, stays_none, stays_set, hold_stays}
 use Rattle.aplc_cprof.proofs.Emitted.{is_below, ints_append, lit_formed, set_formed, one_stmt, formed_append, grown_then, grown_int, grown_emit, within_left, within_right}
 use Rattle.aplc_cprof.proofs.Counting.{does_set}
 use Rattle.aplc_collect.specs.Elements.{Test, Steps, Computed, Failed, Yields, scope_of, scalar_test, one_step}
@@ -246,3 +246,19 @@ module _ (g : ScalarFn) (k l : Kind) (x y : Staged) (lengths : List Int) (b0 b1 
       (omega arith) (omega (arith, many)) (omega (arith, many)) (omega (arith, many)) many (omega (arith, many, some))
       (fresh_wider b0.ints b1.ints b3.ints lengths (omega (arith, ints3)) sh.fresh)
       (λ sc within. fresh_within n (n + 1) (int.Local n) sc (omega arith, omega arith)))
+
+-- ---- As the calls give it
+
+module _ (g : ScalarFn) (k l : Kind) (x y : Staged) (ll rl lengths : List Int) (b0 b1 b2 b3 : Blocks) (v : Int) (e : CExpr) (lx : ll ≡ lengths_of x) (ly : rl ≡ lengths_of y) (shared : Shares b0 b1 ll rl lengths) (e2 : b2 ≡ record b1 { ints = b1.ints + 1 }) (e3 : b3 ≡ record b2 { inner = b2.inner ++ stmt.Set v e ∷ [] }) where
+  shares : Shares b0 b1 (lengths_of x) (lengths_of y) lengths
+  shares = subst (λ (i : List Int). Shares b0 b1 i (lengths_of y) lengths) lx (subst (λ (i : List Int). Shares b0 b1 ll i lengths) ly shared)
+
+  pub shared_given : AreOld b3.ints lengths
+  shared_given = let i = ap (λ (b : Blocks). b.ints) e3 in let j = ap (λ (b : Blocks). b.ints) e2 in are_old_more b1.ints b3.ints lengths (omega (arith, i, j)) (fresh_names b0.ints b1.ints lengths shared.fresh)
+
+  module _ (unlike : kind_eq k l ≡ false) (kinds : kinds_suit g k l ≡ true) (ranks : ranks_suit (rank_of x) (rank_of y) ≡ true) (given : AreGiven (joint (scope_of_staged x) (scope_of_staged y)) b0) (ev : v ≡ int.Local b1.ints) (ee : e ≡ unlike_expr g) where
+    pub number_gives : length lengths ≡ 0 → Computes (DyadicOf g k x l y) (joint (scope_of_staged x) (scope_of_staged y)) (max (rank_of x) (rank_of y)) b0 b3 (staged.Scalar v)
+    number_gives none = number_computes g k l x y lengths b0 b1 b2 b3 v e unlike kinds ranks given shares ev e2 ee e3 none
+
+    pub array_gives : (b4 : Blocks) (w : Staged) → 1 ≤ length lengths → Gathers (scalar_test v) one_step (scope_of v) 0 b3 b4 lengths w → Computes (DyadicOf g k x l y) (joint (scope_of_staged x) (scope_of_staged y)) (max (rank_of x) (rank_of y)) b0 b4 w
+    array_gives b4 w some last = array_computes g k l x y lengths b0 b1 b2 b3 v e unlike kinds ranks given shares ev e2 ee e3 b4 w some last

@@ -11,12 +11,12 @@ use Rattle.aplc_cprof.specs.Blocks.{Blocks}
 use Rattle.aplc_cprof.specs.WellFormed.{Scope}
 use Rattle.aplc_cprof.specs.Machine.{State, Code, cells_of, held}
 use Rattle.aplc_cprof.specs.Frames.{AreGiven, Around, Stays, Unnamed}
-use Rattle.aplc_cprof.specs.Emitted.{no_names, IsWithin}
+use Rattle.aplc_cprof.specs.Emitted.{no_names}
 use Rattle.aplc_cprof.proofs.Paths.{Does, does_then, does_weaken}
-use Rattle.aplc_cprof.proofs.Emitted.{within_less, formed_append, formed_more, grown_then}
+use Rattle.aplc_cprof.proofs.Emitted.{within_less, within_left, formed_append, formed_more, grown_then}
 use Rattle.aplc_collect.specs.Elements.{scope_of, scalar_test, one_step}
 use Rattle.aplc_step.specs.declared.stepper.Origin.{Origin}
-use Rattle.aplc_step.specs.Steppers.{stepper_test, stepper_scope, StepsOver}
+use Rattle.aplc_step.specs.Steppers.{origin_scope, scope_of_all, stepper_test, stepper_scope, StepsOver}
 use Rattle.aplc_step.specs.Wholes.{whole_steps, MakesStepper}
 use Rattle.aplc_quad.specs.Printed.{last_length}
 use Rattle.aplc_quad.specs.Shows.{Showing, Shown, Shows, StandsFor, show_steps}
@@ -29,6 +29,7 @@ use Rattle.aplc_stage.proofs.Elements.{IsOldStaged, given_names, older, cells_in
 use Rattle.aplc_stage.proofs.Scalars.{one_number, no_axes, scalar_is}
 use Rattle.aplc_stage.proofs.Parts.{lengths_declared}
 use Rattle.aplc_stage.proofs.Leads.{hold_length}
+use Rattle.aplc_stage.proofs.Chains.{stepper_within}
 use Rattle.aplc_stage.proofs.Given.{stepper_unnamed}
 
 -- a state without new buffers beside itself
@@ -113,7 +114,7 @@ unnamed_after g b s t given f u = record {
     same : Some (length t.heap) ≡ Some (length s.heap)
     same = ap (λ (l : List (Option (List ℤ))). Some (length l)) f.heap
 
-module _ (from : Origin) (lengths strides : List Int) (base : Int) (b0 b1 b2 : Blocks) (kind : Kind) (given : AreGiven (scope_of_staged (staged.Cells from lengths)) b0) (over : MakesStepper b0 b1 lengths base strides) (within_g : (sc : Scope) → IsWithin (scope_of_staged (staged.Cells from lengths)) sc → IsWithin (stepper_scope from base strides) sc) (sh : Shows (stepper_test from base strides) one_step (stepper_scope from base strides) (2 + length strides) b1 b2 kind lengths) where
+module _ (from : Origin) (lengths strides : List Int) (base : Int) (b0 b1 b2 : Blocks) (kind : Kind) (given : AreGiven (scope_of_staged (staged.Cells from lengths)) b0) (over : MakesStepper b0 b1 lengths base strides) (sh : Shows (stepper_test from base strides) one_step (stepper_scope from base strides) (2 + length strides) b1 b2 kind lengths) where
   abbrev x : Staged
   x = staged.Cells from lengths
 
@@ -163,7 +164,7 @@ module _ (from : Origin) (lengths strides : List Int) (base : Int) (b0 b1 b2 : B
         over.formed sc room (within_less no_names g sc (omega arith) (omega arith) (omega arith) (omega arith) within)
         (lengths_declared x b0 sc given within (let i = over.grown.ints in omega (arith, i, more))) tt more more_bufs le))
         (λ sc room within are bufs more more_bufs le.
-        sh.formed sc room (within_g sc within)
+        sh.formed sc room (stepper_within from base strides b0.ints b1.ints b0.ints b1.ints sc over.fresh.0 over.fresh.1 (within_left (origin_scope from) (scope_of_all lengths) sc within))
         (lengths_declared x b0 sc given within (let i = over.grown.ints in let j = sh.grown.ints in omega (arith, i, j, more))) tt more more_bufs
         (let deep = over.as_many in omega (arith, deep, le)));
     runs = λ c s a h of_kind unnamed. all_shown c s a h of_kind unnamed;

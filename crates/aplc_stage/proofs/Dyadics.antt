@@ -1,6 +1,7 @@
 -- Scalar functions of two arguments on values in memory.
 use Rattle.std.proofs.Common.{◌≡◌, ℕ, ◌+◌, ◌*◌, ◌<◌, ◌≤◌, List, [], ◌∷◌, ◌++◌, length, refl, sym, ap, ◌∙◌, subst, arith, ℤ, Bool, true, false}
-use Rattle.std.specs.Prelude.{Option, Some, None, Result, Ok, Err, IfOk, max, pos, slice_index_or}
+use Rattle.std.specs.Prelude.{Option, Some, None, Result, Ok, Err, IfOk, max, nat_eq, ◌||◌, pos, slice_index_or}
+use Rattle.std.proofs.lemmas.Bool.Decides.{nat_tests}
 use Rattle.aplc_scalar.specs.declared.kind.Kind.{Kind}
 use Rattle.aplc_scalar.specs.declared.kind.Kind.TheVariants.{Num, Char}
 use Rattle.aplc_scalar.specs.declared.function.ScalarFn.{ScalarFn}
@@ -25,15 +26,15 @@ use Rattle.aplc_step.specs.declared.stepper.Origin.{Origin}
 use Rattle.aplc_step.specs.Steppers.{cells_at, stepper_test, StepsOver}
 use Rattle.aplc_stage.specs.declared.staged.Staged.{Staged}
 use Rattle.aplc_stage.specs.declared.staged.Staged.TheVariants as staged
-use Rattle.aplc_stage.specs.Staged.{Holds}
+use Rattle.aplc_stage.specs.Staged.{lengths_of, rank_of, Holds}
 use Rattle.aplc_stage.specs.Computes.{Making, cells_of_prepared, most_steps, Comes, Faults, Computes, DyadicOf}
 use Rattle.aplc_stage.specs.Pieces.{PlaceBeside}
 use Rattle.aplc_stage.proofs.Heaps.{IsOldOrigin}
-use Rattle.aplc_stage.proofs.Elements.{cells_in, same_element, scalar_beside, cell_beside}
+use Rattle.aplc_stage.proofs.Elements.{IsOldStaged, cells_in, same_element, holds_stay, scalar_beside, cell_beside}
 use Rattle.aplc_stage.proofs.Scalars.{one_number, one_given, no_axes, scalar_is, scalar_runs}
 use Rattle.aplc_stage.proofs.Parts.{name_declared}
 use Rattle.aplc_stage.proofs.Pairs.{few_steps_of, pair_array, pair_prepared, applied_alike, ReadsBeside, pair_stands, extended_first, beside_is}
-use Rattle.aplc_stage.proofs.Leads.{Fillable}
+use Rattle.aplc_stage.proofs.Leads.{hold_length, Fillable}
 
 -- ---- Two numbers
 
@@ -105,6 +106,51 @@ cells_read tables n m s from base strides lengths a ns at_place old_from old_bas
       cell_beside n m (Some other ∷ []) tables s t from base strides lengths a ns is at_place old_from old_base old_strides old_lengths array cells over st index
       ∙ ap (λ z. Some (Ok z)) (same_element a.cells (at_place is) (pos 0) (fill a.kind) (over.below is index) ∙ beside_is a ns is at_place places index);
 }
+
+-- ---- Both arguments later on
+
+-- where all stays, both do
+abbrev pub pair_later : (g : ScalarFn) (k : Kind) (x : Staged) (l : Kind) (y : Staged) (n m : ℕ) (tables : List (List ℤ)) (s u : State) (p : Prepared) → IsOldStaged n m x → IsOldStaged n m y → Stays n m s u → DyadicOf g k x l y tables s p → DyadicOf g k x l y tables u p
+pair_later g k x l y n m tables s u p old_x old_y st h = record {
+  left = h.left;
+  right = h.right;
+  left_holds = holds_stay n m tables s u x h.left old_x st h.left_holds;
+  right_holds = holds_stay n m tables s u y h.right old_y st h.right_holds;
+  left_kind = h.left_kind;
+  right_kind = h.right_kind;
+  prepared = h.prepared;
+}
+
+-- the ranks are those that are known when compiling
+pub ranks_held : (tables : List (List ℤ)) (s : State) (x y : Staged) (a b : Array) → Holds tables s x a → Holds tables s y b → ranks_suit (rank_of x) (rank_of y) ≡ true → ranks_suit (rank a) (rank b) ≡ true
+ranks_held tables s x y a b h i e =
+    ap (λ n. ranks_suit n (rank b)) (sym (hold_length s (lengths_of x) a.shape h.shape))
+    ∙ ap (ranks_suit (rank_of x)) (sym (hold_length s (lengths_of y) b.shape i.shape))
+    ∙ e
+
+either_true : (a b : Bool) → b ≡ true → (a || b) ≡ true
+either_true true b h = refl
+either_true false b h = h
+
+or_first : (a b : Bool) → a ≡ true → (a || b) ≡ true
+or_first true b h = refl
+or_first false b h = absurd (cc h)
+
+pub scalar_suits : (r : ℕ) → ranks_suit r 0 ≡ true
+scalar_suits r = let zero_is : nat_eq 0 0 ≡ true = refl in or_first (nat_eq r 0 || nat_eq 0 0) (nat_eq r 0) (either_true (nat_eq r 0) (nat_eq 0 0) zero_is)
+
+pub same_suits : (r : ℕ) → ranks_suit r r ≡ true
+same_suits r =
+    let e : nat_eq r r ≡ true = grind (arith, nat_tests) in
+    either_true (nat_eq r 0 || nat_eq r 0) (nat_eq r r) e
+
+-- an array keeps its shape beside a scalar
+pub beside_scalar : (ms ns : List ℕ) → ns ≡ [] → common_shape ms ns ≡ Some ms
+beside_scalar ms ns e = ap (common_shape ms) e ∙ alone ms
+  where
+    alone : (ks : List ℕ) → common_shape ks [] ≡ Some ks
+    alone [] = refl
+    alone (k ∷ ks) = refl
 
 -- ---- The array to come
 

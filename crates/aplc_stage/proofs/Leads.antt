@@ -73,7 +73,7 @@ pub some_cells : (ns : List ℕ) → 1 ≤ length ns → cells_for ns ≡ produc
 some_cells [] le = absurd (omega (arith, le))
 some_cells (n ∷ ns) le = refl
 
-fresh_names : (n m : ℕ) (xs : List Int) → AreFresh n m xs → AreOld m xs
+pub fresh_names : (n m : ℕ) (xs : List Int) → AreFresh n m xs → AreOld m xs
 fresh_names n m [] h = tt
 fresh_names n m (x ∷ xs) h = (fresh_old n m x h.0, fresh_names n m xs h.1)
 
@@ -81,7 +81,7 @@ fresh_ints : (sc : Scope) (n m : ℕ) (xs : List Int) → AreFresh n m xs → m 
 fresh_ints sc n m [] h le = tt
 fresh_ints sc n m (x ∷ xs) h le = (fresh_declared sc n m x h.0 le, fresh_ints sc n m xs h.1 le)
 
-fresh_wider : (n m m' : ℕ) (xs : List Int) → m ≤ m' → AreFresh n m xs → AreFresh n m' xs
+pub fresh_wider : (n m m' : ℕ) (xs : List Int) → m ≤ m' → AreFresh n m xs → AreFresh n m' xs
 fresh_wider n m m' [] le h = tt
 fresh_wider n m m' (x ∷ xs) le h = (fresh_more n m m' x le h.0, fresh_wider n m m' xs le h.1)
 

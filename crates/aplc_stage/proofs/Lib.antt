@@ -16,5 +16,13 @@ pub mod Monadics
 pub mod Copies
 pub mod Commons
 pub mod Pairs
+pub mod Chains
 pub mod Dyadics
+pub mod Besides
+pub mod Couples
+pub mod Sharing
+pub mod Unlikes
+pub mod Calls
 pub mod Freed
+pub mod Given
+pub mod Displayed

@@ -1,3 +1,4 @@
 pub mod Staged
 pub mod Computes
 pub mod Pieces
+pub mod Displays

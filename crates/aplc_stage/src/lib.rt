@@ -2,6 +2,8 @@
 //! It must not know of programs, of names, of functions or of trees.
 #![tactic(auto)]
 
+mod freeing;
 mod staged;
 
+pub use freeing::free_staged;
 pub use staged::Staged;

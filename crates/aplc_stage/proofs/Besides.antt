@@ -1,12 +1,11 @@
 -- An array with its own shape, and a number beside it.
 -- It must not know which of the two arguments the number is until the end.
-use Rattle.std.proofs.Common.{◌≡◌, ℕ, ◌+◌, ◌*◌, ◌<◌, ◌≤◌, List, [], ◌∷◌, ◌++◌, length, refl, sym, ap, ◌∙◌, subst, arith, ℤ, true}
-use Rattle.std.specs.Prelude.{Some, Err, max}
+use Rattle.std.proofs.Common.{◌≡◌, ℕ, ◌+◌, ◌≤◌, List, [], ◌++◌, length, refl, sym, ap, ◌∙◌, subst, arith, ℤ, true}
+use Rattle.std.specs.Prelude.{Err, max}
 use Rattle.aplc_scalar.specs.declared.kind.Kind.{Kind}
-use Rattle.aplc_scalar.specs.declared.kind.FaultKind.{FaultKind}
 use Rattle.aplc_scalar.specs.declared.function.ScalarFn.{ScalarFn}
 use Rattle.aplc_scalar.specs.Scalar.{dyadic}
-use Rattle.aplc_arr.specs.Arrays.{Array, IsArray, place, product}
+use Rattle.aplc_arr.specs.Arrays.{Array, place, product}
 use Rattle.aplc_arr.specs.Delayed.{Prepared, computed}
 use Rattle.aplc_arr.specs.Each.{kinds_suit, common_shape}
 use Rattle.aplc_cprof.specs.declared.syntax.Int.{Int}
@@ -14,10 +13,10 @@ use Rattle.aplc_cprof.specs.declared.syntax.CStmt.{CStmt}
 use Rattle.aplc_cprof.specs.Blocks.{Blocks}
 use Rattle.aplc_cprof.specs.WellFormed.{Scope}
 use Rattle.aplc_cprof.specs.Machine.{State, Code}
-use Rattle.aplc_cprof.specs.Frames.{AreGiven, IsOld, AreOld, Stays, Hold}
+use Rattle.aplc_cprof.specs.Frames.{AreGiven, AreOld, Stays, Hold}
 use Rattle.aplc_cprof.specs.Emitted.{joint, IsWithin, AreInts, IsFormed}
 use Rattle.aplc_cprof.proofs.Paths.{Does, does_then, does_weaken}
-use Rattle.aplc_cprof.proofs.Frames.{given_left, given_right, hold_stays}
+use Rattle.aplc_cprof.proofs.Frames.{hold_stays}
 use Rattle.aplc_cprof.proofs.Emitted.{formed_append, grown_then, within_left, within_right}
 use Rattle.aplc_collect.specs.Elements.{Test, Steps, scope_of, scalar_test, one_step}
 use Rattle.aplc_collect.specs.Fused.{dyad_test, steps_of_two}
@@ -35,7 +34,7 @@ use Rattle.aplc_stage.proofs.Elements.{IsOldStaged, older, given_names, cells_fe
 use Rattle.aplc_stage.proofs.Scalars.{no_axes}
 use Rattle.aplc_stage.proofs.Parts.{lengths_declared, locals_fresh}
 use Rattle.aplc_stage.proofs.Leads.{hold_length, Leads, Fillable, computes_by}
-use Rattle.aplc_stage.proofs.Chains.{piece_last, piece_formed, stays_since, fresh_within, stepper_within, both_within}
+use Rattle.aplc_stage.proofs.Chains.{piece_last, piece_formed, stays_since, stepper_within, both_within}
 use Rattle.aplc_stage.proofs.Dyadics.{pair_later, ranks_held, scalar_suits, beside_scalar, scalar_reads, cells_read, pair_fillable}
 
 -- lengths of its own hold the array's shape, and a stepper goes over its cells

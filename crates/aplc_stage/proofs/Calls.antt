@@ -1,6 +1,6 @@
 -- What the functions of two arguments ask of the functions that they call, and what they give, in the builder's states.
 -- It must not know which arguments these are.
-use Rattle.std.proofs.Common.{◌≡◌, ℕ, ◌+◌, ◌<◌, ◌≤◌, List, [], ◌∷◌, length, refl, sym, ap, ◌∙◌, subst, arith, Bool, true, false}
+use Rattle.std.proofs.Common.{◌≡◌, ℕ, ◌+◌, ◌≤◌, List, length, refl, sym, ◌∙◌, subst, arith, Bool, true, false}
 use Rattle.std.specs.Prelude.{max, nat_eq, ◌||◌}
 use Rattle.std.specs.Bool.{◌==◌}
 use Rattle.std.proofs.lemmas.Bool.Decides.{nat_tests}
@@ -10,11 +10,10 @@ use Rattle.aplc_scalar.specs.Scalar.{dyadic}
 use Rattle.aplc_arr.specs.Each.{kinds_suit, ranks_suit}
 use Rattle.aplc_cprof.specs.declared.syntax.Int.{Int}
 use Rattle.aplc_cprof.specs.Blocks.{Blocks}
-use Rattle.aplc_cprof.specs.WellFormed.{Scope}
 use Rattle.aplc_cprof.specs.Frames.{AreGiven, IsOld, AreOld}
 use Rattle.aplc_cprof.specs.Emitted.{joint}
 use Rattle.aplc_cprof.proofs.Frames.{given_left, given_right, given_more, old_more, are_old_more}
-use Rattle.aplc_collect.specs.Elements.{Test, scope_of, scalar_test, one_step}
+use Rattle.aplc_collect.specs.Elements.{scope_of, scalar_test, one_step}
 use Rattle.aplc_collect.specs.Fused.{dyad_test, steps_of_two}
 use Rattle.aplc_collect.specs.Scalars.{EmitsDyad, dyad_steps, dyad_depth}
 use Rattle.aplc_step.specs.declared.stepper.Origin.{Origin}
@@ -29,7 +28,7 @@ use Rattle.aplc_stage.specs.Pieces.{OwnLengths, Conforms, KeepsOrExtends, Gather
 use Rattle.aplc_stage.proofs.Setting.{locals_old}
 use Rattle.aplc_stage.proofs.Heaps.{IsOldOrigin}
 use Rattle.aplc_stage.proofs.Elements.{older, given_names}
-use Rattle.aplc_stage.proofs.Chains.{both_given, old_given, stepper_given}
+use Rattle.aplc_stage.proofs.Chains.{both_given, stepper_given}
 use Rattle.aplc_stage.proofs.Dyadics.{dyad_number}
 use Rattle.aplc_stage.proofs.Besides.{left_computes, right_computes}
 use Rattle.aplc_stage.proofs.Couples.{couple_computes}

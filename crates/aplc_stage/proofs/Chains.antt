@@ -1,8 +1,6 @@
 -- Pieces of code that leave all as it was, one after the other, and the names that steppers look at.
 -- It must not know what the pieces are for.
-use Rattle.std.proofs.Common.{◌≡◌, ℕ, ◌+◌, ◌<◌, ◌≤◌, List, [], ◌∷◌, ◌++◌, length, refl, sym, ap, ◌∙◌, subst, arith, true, false, Bool}
-use Rattle.std.specs.Prelude.{max, nat_eq, ◌||◌}
-use Rattle.std.proofs.lemmas.Bool.Decides.{nat_tests}
+use Rattle.std.proofs.Common.{ℕ, ◌+◌, ◌≤◌, List, [], ◌∷◌, ◌++◌, length, arith}
 use Rattle.aplc_scalar.specs.declared.kind.FaultKind.{FaultKind}
 use Rattle.aplc_cprof.specs.declared.syntax.Int.{Int}
 use Rattle.aplc_cprof.specs.declared.syntax.Int.TheVariants as int

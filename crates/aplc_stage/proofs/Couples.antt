@@ -1,23 +1,21 @@
 -- Two arrays of one rank: their shape together, which of them is extended, and their elements.
 -- It must not know where the arrays came from.
-use Rattle.std.proofs.Common.{◌≡◌, ℕ, ◌+◌, ◌*◌, ◌<◌, ◌≤◌, List, [], ◌∷◌, ◌++◌, length, refl, sym, ap, ◌∙◌, subst, arith, ℤ, true}
-use Rattle.std.specs.Prelude.{Some, None, Err, max}
+use Rattle.std.proofs.Common.{◌≡◌, ℕ, ◌+◌, ◌≤◌, List, [], ◌∷◌, ◌++◌, length, sym, ap, ◌∙◌, subst, arith, ℤ, true}
+use Rattle.std.specs.Prelude.{Err, max}
 use Rattle.aplc_scalar.specs.declared.kind.Kind.{Kind}
 use Rattle.aplc_scalar.specs.declared.kind.FaultKind.{FaultKind}
-use Rattle.aplc_scalar.specs.declared.kind.FaultKind.TheVariants as fault
 use Rattle.aplc_scalar.specs.declared.function.ScalarFn.{ScalarFn}
 use Rattle.aplc_scalar.specs.Scalar.{dyadic}
-use Rattle.aplc_arr.specs.Arrays.{Array, IsArray, rank, place, product}
+use Rattle.aplc_arr.specs.Arrays.{Array, rank, place, product}
 use Rattle.aplc_arr.specs.Delayed.{Prepared, computed}
-use Rattle.aplc_arr.specs.Each.{kinds_suit, ranks_suit, common_shape, each_dyadic}
+use Rattle.aplc_arr.specs.Each.{kinds_suit, ranks_suit}
 use Rattle.aplc_cprof.specs.declared.syntax.Int.{Int}
-use Rattle.aplc_cprof.specs.declared.syntax.Int.TheVariants as int
 use Rattle.aplc_cprof.specs.declared.syntax.CStmt.{CStmt}
 use Rattle.aplc_cprof.specs.Blocks.{Blocks}
 use Rattle.aplc_cprof.specs.WellFormed.{Scope, is_int}
-use Rattle.aplc_cprof.specs.Machine.{State, Code, read_int}
+use Rattle.aplc_cprof.specs.Machine.{State, Code}
 use Rattle.aplc_cprof.specs.Frames.{AreGiven, IsOld, AreOld, Stays, Hold}
-use Rattle.aplc_cprof.specs.Emitted.{joint, Grown, IsWithin, AreInts, IsFormed}
+use Rattle.aplc_cprof.specs.Emitted.{joint, IsWithin, AreInts, IsFormed}
 use Rattle.aplc_cprof.proofs.Paths.{Does, does_then, does_weaken}
 use Rattle.aplc_cprof.proofs.Frames.{given_left, given_right, are_old_more, old_more, stays_none, hold_stays, read_stays}
 use Rattle.aplc_cprof.proofs.Emitted.{is_below, ints_append, formed_append, grown_then, within_left, within_right}
@@ -31,12 +29,12 @@ use Rattle.aplc_step.proofs.Addresses.{over_stays}
 use Rattle.aplc_stage.specs.declared.staged.Staged.{Staged}
 use Rattle.aplc_stage.specs.declared.staged.Staged.TheVariants as staged
 use Rattle.aplc_stage.specs.Staged.{scope_of_staged, Holds}
-use Rattle.aplc_stage.specs.Computes.{AreFresh, Computes, DyadicOf, NoFault}
+use Rattle.aplc_stage.specs.Computes.{AreFresh, Computes, DyadicOf}
 use Rattle.aplc_stage.specs.Pieces.{locals, PlaceBeside, Beside, Kept, Extended, Conformed, Unlike, Conforms, SteppedBeside, KeepsOrExtends, Gathers}
-use Rattle.aplc_stage.proofs.Setting.{locals_old, locals_many, locals_declared}
+use Rattle.aplc_stage.proofs.Setting.{locals_old, locals_many}
 use Rattle.aplc_stage.proofs.Elements.{IsOldStaged, older, given_names, cells_few}
 use Rattle.aplc_stage.proofs.Parts.{lengths_declared, locals_fresh}
-use Rattle.aplc_stage.proofs.Pairs.{pair_unlike, ReadsBeside}
+use Rattle.aplc_stage.proofs.Pairs.{pair_unlike}
 use Rattle.aplc_stage.proofs.Leads.{hold_length, Leads, Fillable, computes_by}
 use Rattle.aplc_stage.proofs.Chains.{piece_then, piece_last, piece_formed, stays_since, all_declared, locals_new, stepper_within, both_within}
 use Rattle.aplc_stage.proofs.Dyadics.{pair_later, ranks_held, same_suits, cells_read, pair_fillable}
@@ -157,7 +155,7 @@ module _ (lf rf : Origin) (ll rl names : List Int) (kl kr bl br : Int) (sl sr el
       unlike e t u = (
         u.stays,
         ap computed (h.prepared ∙ pair_unlike g a b (ap (λ (q : Kind). kinds_suit g q b.kind) h.left_kind ∙ ap (kinds_suit g k) h.right_kind ∙ kinds) (suits c.tables s a b h.left_holds h.right_holds) u.none)
-        ∙ ap Err (sym u.kind),
+            ∙ ap Err (sym u.kind),
       )
 
       -- Behind the shape: it stays, and the arrays do.
@@ -186,8 +184,8 @@ module _ (lf rf : Origin) (ll rl names : List Int) (kl kr bl br : Int) (sl sr el
             let d = now t f in (
               way t f,
               pair_fillable g k x y (stepper_test lf bl el) (stepper_test rf br er) one_step one_step names c.tables b5.ints b5.bufs t p m.shape d kinds (suits c.tables t a b d.left_holds d.right_holds) m.common (shape_there t f)
-              (cells_read c.tables b5.ints b5.bufs t lf bl el names a m.shape at_l (older_x b5 up5).0 (base_old b5.ints (omega (arith, over_r.grown.ints, keep_l.grown.ints, keep_r.grown.ints))) (kept_old b5.ints keep_r.grown.ints) (names_old b5.ints up5.0) h.left_holds.array d.left_holds.cells ol pl)
-              (cells_read c.tables b5.ints b5.bufs t rf br er names b m.shape at_r (older_y b5 up5).0 (right_base_old b5.ints (omega (arith, keep_l.grown.ints, keep_r.grown.ints))) (right_kept_old b5.ints (omega arith)) (names_old b5.ints up5.0) h.right_holds.array d.right_holds.cells ov pr),
+                  (cells_read c.tables b5.ints b5.bufs t lf bl el names a m.shape at_l (older_x b5 up5).0 (base_old b5.ints (omega (arith, over_r.grown.ints, keep_l.grown.ints, keep_r.grown.ints))) (kept_old b5.ints keep_r.grown.ints) (names_old b5.ints up5.0) h.left_holds.array d.left_holds.cells ol pl)
+                  (cells_read c.tables b5.ints b5.bufs t rf br er names b m.shape at_r (older_y b5 up5).0 (right_base_old b5.ints (omega (arith, keep_l.grown.ints, keep_r.grown.ints))) (right_kept_old b5.ints (omega arith)) (names_old b5.ints up5.0) h.right_holds.array d.right_holds.cells ov pr),
             )
 
         right_runs : (t : State) (at_l : List ℕ → ℕ) → Later b1 t → StepsOver names bl el t m.shape at_l (length a.cells) → PlaceBeside a.shape m.shape (place a.shape) at_l → StepsOver rl br sr t b.shape (place b.shape) (length b.cells) → Does c Way (length sr + 1) keep_r.code t Post Fail

@@ -1,21 +1,20 @@
 -- Scalar functions of two arguments on values in memory.
-use Rattle.std.proofs.Common.{◌≡◌, ℕ, ◌+◌, ◌*◌, ◌<◌, ◌≤◌, List, [], ◌∷◌, ◌++◌, length, refl, sym, ap, ◌∙◌, subst, arith, ℤ, Bool, true, false}
-use Rattle.std.specs.Prelude.{Option, Some, None, Result, Ok, Err, IfOk, max, nat_eq, ◌||◌, pos, slice_index_or}
+use Rattle.std.proofs.Common.{◌≡◌, ℕ, ◌≤◌, List, [], ◌∷◌, length, refl, sym, ap, ◌∙◌, subst, arith, ℤ, Bool, true, false}
+use Rattle.std.specs.Prelude.{Some, Ok, Err, IfOk, nat_eq, ◌||◌, pos, slice_index_or}
 use Rattle.std.proofs.lemmas.Bool.Decides.{nat_tests}
 use Rattle.aplc_scalar.specs.declared.kind.Kind.{Kind}
-use Rattle.aplc_scalar.specs.declared.kind.Kind.TheVariants.{Num, Char}
+use Rattle.aplc_scalar.specs.declared.kind.Kind.TheVariants.{Num}
 use Rattle.aplc_scalar.specs.declared.function.ScalarFn.{ScalarFn}
-use Rattle.aplc_scalar.specs.Scalar.{Given, IsInRange, in_range, dyadic}
-use Rattle.aplc_arr.specs.Arrays.{Array, IsArray, IsIndexOf, rank, place, fill, shape_fits}
+use Rattle.aplc_scalar.specs.Scalar.{Given, IsInRange, dyadic}
+use Rattle.aplc_arr.specs.Arrays.{Array, IsArray, rank, place, fill, shape_fits}
 use Rattle.aplc_arr.specs.Delayed.{Prepared, computed}
 use Rattle.aplc_arr.specs.Each.{kinds_suit, ranks_suit, common_shape, applied, each_dyadic}
 use Rattle.aplc_arr.proofs.KeepsEach.{HasBoth, joint-has, keeps-each_dyadic}
 use Rattle.aplc_cprof.specs.declared.syntax.Int.{Int}
 use Rattle.aplc_cprof.specs.Blocks.{Blocks}
-use Rattle.aplc_cprof.specs.WellFormed.{Scope}
-use Rattle.aplc_cprof.specs.Machine.{State, Code, Is, read_int}
+use Rattle.aplc_cprof.specs.Machine.{State, Code}
 use Rattle.aplc_cprof.specs.Frames.{AreGiven, IsOld, AreOld, Stays, Hold}
-use Rattle.aplc_cprof.specs.Emitted.{joint, no_names, IsWithin}
+use Rattle.aplc_cprof.specs.Emitted.{joint, no_names}
 use Rattle.aplc_cprof.proofs.Paths.{Does}
 use Rattle.aplc_cprof.proofs.Frames.{given_left, given_right}
 use Rattle.aplc_cprof.proofs.Emitted.{within_less, within_left, within_right}
@@ -59,9 +58,10 @@ dyad_number g k b0 b1 x y v kinds given em = record {
   grown = em.grown;
   formed = λ sc room within are bufs more more_bufs le.
       let older : b0.ints ≤ sc.ints = let i = em.grown.ints in omega (arith, i, more) in
-      em.formed sc room (within_less no_names (joint (scope_of x) (scope_of y)) sc (omega arith) (omega arith) (omega arith) (omega arith) within)
-      (name_declared x b0 sc (given_left (scope_of x) (scope_of y) b0 given) (within_left (scope_of x) (scope_of y) sc within) older,
-      (name_declared y b0 sc (given_right (scope_of x) (scope_of y) b0 given) (within_right (scope_of x) (scope_of y) sc within) older, tt)) tt more more_bufs (omega (arith, le));
+      em.formed sc room (within_less no_names (joint (scope_of x) (scope_of y)) sc (omega arith) (omega arith) (omega arith) (omega arith) within) (
+        name_declared x b0 sc (given_left (scope_of x) (scope_of y) b0 given) (within_left (scope_of x) (scope_of y) sc within) older,
+        (name_declared y b0 sc (given_right (scope_of x) (scope_of y) b0 given) (within_right (scope_of x) (scope_of y) sc within) older, tt),
+      ) tt more more_bufs (omega (arith, le));
   fresh = em.fresh;
   ranked = tt;
   axes = refl;
@@ -79,7 +79,7 @@ dyad_number g k b0 b1 x y v kinds given em = record {
         let left : a ≡ one_number k z = a_is ∙ ap (λ j. one_number j z) from.left_kind in
         let right : b ≡ one_number k w = b_is ∙ ap (λ j. one_number j w) from.right_kind in
         let prepared : p ≡ Ok (pair_array g (one_number k z) (one_number k w) []) =
-            from.prepared ∙ ap (λ (t : Array). each_dyadic g t b) left ∙ ap (each_dyadic g (one_number k z)) right ∙ pair_prepared g (one_number k z) (one_number k w) [] kinds refl refl in
+        from.prepared ∙ ap (λ (t : Array). each_dyadic g t b) left ∙ ap (each_dyadic g (one_number k z)) right ∙ pair_prepared g (one_number k z) (one_number k w) [] kinds refl refl in
         let keeps : IfOk (computed p) IsArray = subst (λ (q : Prepared). IfOk (computed q) IsArray) (sym from.prepared) (keeps-each_dyadic g a b from.left_holds.array from.right_holds.array) in
         scalar_runs c b0.ints b0.bufs (dyad_steps g) 0 em.code s v Num (dyadic g z w) p (ap computed prepared ∙ pair_given g k z w) keeps (few_steps g p)
         (em.runs c s z w from.left_holds.cells.2 from.right_holds.cells.2 (number_in a z a_is from.left_holds.array) (number_in b w b_is from.right_holds.array))

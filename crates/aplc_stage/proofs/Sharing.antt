@@ -1,14 +1,10 @@
 -- The lengths of two values together: those of the array beside a scalar, or those on which two arrays conform.
 -- It must not know what is made of their elements.
-use Rattle.std.proofs.Common.{◌≡◌, ℕ, ◌+◌, ◌<◌, ◌≤◌, List, [], ◌∷◌, ◌++◌, length, refl, sym, ap, ◌∙◌, subst, arith, true}
-use Rattle.std.specs.Prelude.{Some, max}
-use Rattle.aplc_scalar.specs.declared.kind.FaultKind.{FaultKind}
+use Rattle.std.proofs.Common.{◌≡◌, ℕ, ◌+◌, List, [], ◌∷◌, length, refl, sym, ap, ◌∙◌, subst, arith}
 use Rattle.aplc_arr.specs.Each.{common_shape}
 use Rattle.aplc_cprof.specs.declared.syntax.Int.{Int}
 use Rattle.aplc_cprof.specs.Blocks.{Blocks}
-use Rattle.aplc_cprof.specs.Machine.{State}
 use Rattle.aplc_cprof.specs.Frames.{Stays, Hold}
-use Rattle.aplc_cprof.specs.Emitted.{no_names, IsFormed}
 use Rattle.aplc_cprof.proofs.Paths.{does_weaken}
 use Rattle.aplc_cprof.proofs.Emitted.{ints_first}
 use Rattle.aplc_stage.specs.Computes.{AreFresh, NoFault}

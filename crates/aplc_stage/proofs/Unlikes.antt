@@ -1,16 +1,15 @@
 -- Equality of a number and a character: one constant in the shape of both arguments.
 -- It must not know what the elements are.
-use Rattle.std.proofs.Common.{◌≡◌, ℕ, ◌+◌, ◌*◌, ◌<◌, ◌≤◌, List, [], ◌∷◌, ◌++◌, length, refl, sym, ap, ◌∙◌, subst, arith, ℤ, Bool, true, false}
-use Rattle.std.specs.Prelude.{Option, Some, None, Ok, Err, IfOk, pos, max, if◌then◌else◌}
+use Rattle.std.proofs.Common.{◌≡◌, ℕ, ◌+◌, ◌≤◌, List, [], ◌∷◌, ◌++◌, length, refl, sym, ap, ◌∙◌, subst, arith, ℤ, Bool, true, false}
+use Rattle.std.specs.Prelude.{Some, None, Ok, Err, IfOk, pos, max, if◌then◌else◌}
 use Rattle.aplc_scalar.specs.declared.kind.Kind.{Kind}
 use Rattle.aplc_scalar.specs.declared.kind.Kind.TheVariants.{Num}
-use Rattle.aplc_scalar.specs.declared.kind.FaultKind.{FaultKind}
 use Rattle.aplc_scalar.specs.declared.function.ScalarFn.{ScalarFn}
 use Rattle.aplc_scalar.specs.declared.function.ScalarFn.TheVariants as fn
 use Rattle.aplc_scalar.specs.Scalar.{Given, in_range, dyadic}
-use Rattle.aplc_arr.specs.Arrays.{Array, IsArray, IsIndexOf, rank, kind_eq, index_at, product}
+use Rattle.aplc_arr.specs.Arrays.{Array, IsArray, rank, kind_eq}
 use Rattle.aplc_arr.specs.Delayed.{Prepared, computed, with_cells, all_given}
-use Rattle.aplc_arr.specs.Each.{kinds_suit, ranks_suit, common_shape, applied, of_unlike, extended, each_dyadic}
+use Rattle.aplc_arr.specs.Each.{kinds_suit, ranks_suit, common_shape, applied, of_unlike, extended}
 use Rattle.aplc_arr.proofs.KeepsEach.{keeps-each_dyadic}
 use Rattle.aplc_cprof.specs.declared.syntax.Int.{Int}
 use Rattle.aplc_cprof.specs.declared.syntax.Int.TheVariants as int
@@ -18,28 +17,28 @@ use Rattle.aplc_cprof.specs.declared.syntax.CExpr.{CExpr}
 use Rattle.aplc_cprof.specs.declared.syntax.CStmt.{CStmt}
 use Rattle.aplc_cprof.specs.declared.syntax.CStmt.TheVariants as stmt
 use Rattle.aplc_cprof.specs.Blocks.{Blocks}
-use Rattle.aplc_cprof.specs.WellFormed.{Scope, is_int, is_expr}
-use Rattle.aplc_cprof.specs.Machine.{State, Code, Todo, Is, value, read_int, or_unset}
+use Rattle.aplc_cprof.specs.WellFormed.{Scope, is_expr}
+use Rattle.aplc_cprof.specs.Machine.{State, Code, Is, value, or_unset}
 use Rattle.aplc_cprof.specs.Frames.{AreGiven, AreOld, Stays, Hold}
-use Rattle.aplc_cprof.specs.Emitted.{joint, no_names, Grown, IsWithin, AreInts, IsFormed}
+use Rattle.aplc_cprof.specs.Emitted.{joint, Grown, IsWithin, AreInts, IsFormed}
 use Rattle.aplc_cprof.proofs.Values.{value_Lit}
 use Rattle.aplc_cprof.proofs.Paths.{Does, does_then, does_weaken}
 use Rattle.aplc_cprof.proofs.Frames.{given_left, given_right, after_set, put_at, are_old_more, stays_none, stays_set, hold_stays}
 use Rattle.aplc_cprof.proofs.Emitted.{is_below, ints_append, lit_formed, set_formed, one_stmt, formed_append, grown_then, grown_int, grown_emit, within_left, within_right}
 use Rattle.aplc_cprof.proofs.Counting.{does_set}
-use Rattle.aplc_collect.specs.Elements.{Test, Steps, Computed, Failed, Yields, scope_of, scalar_test, one_step}
+use Rattle.aplc_collect.specs.Elements.{Computed, Failed, scope_of, scalar_test, one_step}
 use Rattle.aplc_stage.specs.declared.staged.Staged.{Staged}
 use Rattle.aplc_stage.specs.declared.staged.Staged.TheVariants as staged
-use Rattle.aplc_stage.specs.Staged.{lengths_of, scope_of_staged, rank_of, Holds}
-use Rattle.aplc_stage.specs.Computes.{with_heap, Making, cells_of_prepared, most_steps, AreFresh, Comes, Faults, Computes, DyadicOf}
+use Rattle.aplc_stage.specs.Staged.{lengths_of, scope_of_staged, rank_of}
+use Rattle.aplc_stage.specs.Computes.{Making, cells_of_prepared, most_steps, Comes, Faults, Computes, DyadicOf}
 use Rattle.aplc_stage.specs.Pieces.{SharedLengths, Unlike, Shares, StandsBeside, Gathers, unlike_expr}
-use Rattle.aplc_stage.proofs.Elements.{IsOldStaged, given_names, scalar_beside}
-use Rattle.aplc_stage.proofs.Scalars.{one_number, one_given, scalar_runs}
+use Rattle.aplc_stage.proofs.Elements.{scalar_beside}
+use Rattle.aplc_stage.proofs.Scalars.{one_given, scalar_runs}
 use Rattle.aplc_stage.proofs.Parts.{lengths_declared}
 use Rattle.aplc_stage.proofs.Pairs.{pair_array, pair_prepared, pair_unlike}
 use Rattle.aplc_stage.proofs.Leads.{hold_length, fresh_names, fresh_wider, Leads, Fillable, computes_by}
-use Rattle.aplc_stage.proofs.Chains.{piece_formed, stays_since, fresh_within}
-use Rattle.aplc_stage.proofs.Dyadics.{pair_later, ranks_held, common_fits}
+use Rattle.aplc_stage.proofs.Chains.{piece_formed, fresh_within}
+use Rattle.aplc_stage.proofs.Dyadics.{ranks_held, common_fits}
 
 -- ---- The constant
 
@@ -188,7 +187,7 @@ module _ (g : ScalarFn) (k l : Kind) (x y : Staged) (lengths : List Int) (b0 b1 
         let common : common_shape a.shape b.shape ≡ Some [] = ap (λ (ks : List ℕ). common_shape ks b.shape) left ∙ ap (λ (ks : List ℕ). Some ks) right in
         let prepared : p ≡ Ok (pair_array g a b []) = h.prepared ∙ pair_prepared g a b [] kinds_are suits common in
         let given_is : computed p ≡ one_given Num (Ok (unlike_number g)) =
-            ap computed prepared ∙ only_one (λ is. applied g a.kind b.kind (extended a [] is) (extended b [] is)) ∙ ap (one_given Num) (element_is [] []) in
+        ap computed prepared ∙ only_one (λ is. applied g a.kind b.kind (extended a [] is) (extended b [] is)) ∙ ap (one_given Num) (element_is [] []) in
         scalar_runs c b0.ints b0.bufs (r + 5 + 1) 0 code s (int.Local n) Num (Ok (unlike_number g)) p given_is keeps (few p none)
         (does_weaken c (Stays b0.ints b0.bufs s) (Stays b0.ints b0.bufs s) (r + 5 + 1) (r + 5 + 1) code s (Set b0.ints b0.bufs n lengths a.shape b.shape (unlike_number g) s) (Computed b0.ints b0.bufs s (int.Local n) (Ok (unlike_number g))) (Unlike b0.ints b0.bufs a.shape b.shape s) (Failed b0.ints b0.bufs s (Ok (unlike_number g)))
         (λ u f. f) (λ u m. record { stays = m.stays; value = unlike_number g; given = refl; is = ap or_unset m.is }) (λ i u f. absurd (none_some a.shape b.shape [] f.none common)) (omega arith)

@@ -1,7 +1,7 @@
 -- The code of a cell at strides.
 use Rattle.std.proofs.Common.{◌≡◌, ℕ, ◌+◌, ◌<◌, ◌≤◌, List, [], ◌∷◌, ◌++◌, length, refl, sym, ap, ◌∙◌, subst, arith, ℤ, true, false, cond, drop, drop_of_length-le, Bool}
 use Rattle.std.proofs.lemmas.List.{drop_more}
-use Rattle.std.specs.Prelude.{Option, Some, None, Ok, pos, max, nat_lt, slice_index_or, slice_get, option_and_then, ◌&&◌}
+use Rattle.std.specs.Prelude.{Option, Some, None, Ok, pos, nat_lt, slice_index_or, slice_get, option_and_then}
 use Rattle.aplc_scalar.specs.Scalar.{Given, in_range}
 use Rattle.aplc_cprof.specs.declared.syntax.Int.{Int}
 use Rattle.aplc_cprof.specs.declared.syntax.Int.TheVariants as int

@@ -1,15 +1,15 @@
 -- Which element a cell at strides is.
-use Rattle.std.proofs.Common.{◌≡◌, ℕ, suc, ◌+◌, ◌*◌, ◌<◌, ◌≤◌, List, [], ◌∷◌, ◌++◌, length, refl, sym, ap, ◌∙◌, arith, ℤ, Bool, true, cond}
+use Rattle.std.proofs.Common.{◌≡◌, ℕ, suc, ◌+◌, ◌<◌, ◌≤◌, List, [], ◌∷◌, length, refl, sym, ap, ◌∙◌, arith, ℤ, Bool, true, cond}
 use Rattle.std.specs.Prelude.{Option, Some, None, Ok, pos, negsuc, ◌^◌, ◌+ℤ◌, ◌*ℤ◌, nat_lt, slice_get, slice_index_or}
 use Rattle.std.proofs.lemmas.Bool.Decides.{nat_tests}
 use Rattle.std.proofs.lemmas.Int.{ints}
 use Rattle.std.proofs.lemmas.Option.{slice_get-get_or}
 use Rattle.aplc_scalar.specs.Scalar.{Given, in_range}
-use Rattle.aplc_arr.specs.Arrays.{product, IsIndexOf, place}
+use Rattle.aplc_arr.specs.Arrays.{IsIndexOf}
 use Rattle.aplc_cprof.specs.declared.syntax.Int.{Int}
 use Rattle.aplc_cprof.specs.declared.syntax.Op.TheVariants as op
 use Rattle.aplc_cprof.specs.Machine.{State, Is, apply, or_outside, read_int}
-use Rattle.aplc_cprof.specs.Frames.{AreOld, IsOld, Stays, Hold}
+use Rattle.aplc_cprof.specs.Frames.{AreOld, IsOld, Stays}
 use Rattle.aplc_cprof.proofs.Values.{ranged_in}
 use Rattle.aplc_cprof.proofs.Frames.{read_stays, hold_stays}
 use Rattle.aplc_collect.specs.Elements.{number_of}

@@ -1,33 +1,30 @@
 -- What the builders build, from the builder's states.
-use Rattle.std.proofs.Common.{◌≡◌, ℕ, zero, suc, ◌+◌, ◌*◌, ◌<◌, ◌≤◌, List, [], ◌∷◌, ◌++◌, length, length-append, refl, sym, ap, ◌∙◌, subst, arith, append-nil, append_assoc, true, ℤ, Bool}
-use Rattle.std.specs.Prelude.{Some, None, pos, ◌^◌, ◌-◌, take, drop, replicate, slice_index_or, ◌*ℤ◌, ◌+ℤ◌}
+use Rattle.std.proofs.Common.{◌≡◌, ℕ, zero, suc, ◌+◌, ◌*◌, ◌<◌, ◌≤◌, List, [], ◌∷◌, ◌++◌, length, length-append, refl, sym, ap, ◌∙◌, subst, arith, true, ℤ}
+use Rattle.std.specs.Prelude.{Some, pos, ◌^◌, ◌-◌, take, drop, replicate, slice_index_or, ◌*ℤ◌, ◌+ℤ◌}
 use Rattle.std.proofs.lemmas.Int.{ints}
 use Rattle.std.proofs.Math.Seq.{take-length}
-use Rattle.aplc_scalar.specs.declared.kind.FaultKind.{FaultKind}
 use Rattle.aplc_arr.specs.Arrays.{product, IsIndexOf, place}
 use Rattle.aplc_cprof.specs.declared.syntax.Int.{Int}
 use Rattle.aplc_cprof.specs.declared.syntax.Int.TheVariants as int
 use Rattle.aplc_cprof.specs.declared.syntax.Op.TheVariants as op
 use Rattle.aplc_cprof.specs.declared.syntax.CExpr.{CExpr}
 use Rattle.aplc_cprof.specs.declared.syntax.CExpr.TheVariants as expr
-use Rattle.aplc_cprof.specs.declared.syntax.CStmt.{CStmt}
 use Rattle.aplc_cprof.specs.declared.syntax.CStmt.TheVariants as stmt
-use Rattle.aplc_cprof.specs.Blocks.{Blocks, IsKept}
+use Rattle.aplc_cprof.specs.Blocks.{Blocks}
 use Rattle.aplc_cprof.specs.WellFormed.{Scope, is_int, is_expr, are_stmts}
 use Rattle.aplc_cprof.specs.Machine.{State, Code, Is, or_unset, read_int}
-use Rattle.aplc_cprof.specs.Frames.{AreGiven, AreOld, IsOld, Stays, Hold}
+use Rattle.aplc_cprof.specs.Frames.{AreGiven, AreOld, IsOld, IsFresh, Stays, Hold}
 use Rattle.aplc_cprof.specs.Emitted.{joint, no_names, on_values, Grown, AreInts, IsFormed}
 use Rattle.aplc_cprof.proofs.Values.{value_Lit}
 use Rattle.aplc_cprof.proofs.Paths.{Does, does_then, does_weaken}
-use Rattle.aplc_cprof.proofs.Kept.{kept_trans, kept_int, kept_code}
-use Rattle.aplc_cprof.proofs.Frames.{given_left, given_right, after_set, old_more, are_old_more, are_old_append, stays_none, stays_then, stays_less, stays_set, put_at, hold_stays, read_stays}
+use Rattle.aplc_cprof.proofs.Frames.{given_left, given_right, fresh_wider, fresh_more, after_set, are_old_more, are_old_append, stays_none, stays_then, stays_less, stays_set, put_at, hold_stays, read_stays}
 use Rattle.aplc_cprof.proofs.Emitted.{is_below, bin_formed, with_literal_formed, on_values_formed, lit_formed, one_stmt, stmts_append, set_formed, grown_then, grown_none}
 use Rattle.aplc_cprof.proofs.Counting.{does_set}
 use Rattle.aplc_collect.specs.Elements.{scope_of}
 use Rattle.aplc_step.specs.declared.stepper.Origin.{Origin}
-use Rattle.aplc_step.specs.Steppers.{origin_scope, scope_of_all, stepper_scope, address, HoldInts, AreAxes, StepsOver, zeros}
-use Rattle.aplc_step.specs.Wholes.{with_set, some_element, products_by, AreBelow, HoldProducts, EmitsProducts, whole_steps, MakesStepper, ExtendsStepper}
-use Rattle.aplc_step.proofs.Addresses.{address_zeros, hold_ints_stays}
+use Rattle.aplc_step.specs.Steppers.{origin_scope, scope_of_all, AreFresh, stepper_scope, address, HoldInts, AreAxes, StepsOver, zeros}
+use Rattle.aplc_step.specs.Wholes.{with_set, some_element, AreBelow, HoldProducts, EmitsProducts, whole_steps, MakesStepper, ExtendsStepper}
+use Rattle.aplc_step.proofs.Addresses.{address_zeros}
 use Rattle.aplc_step.proofs.Wholes.{no_products, more_products, begins, Ready, begins_does, over_scalar, over_axes, factor_below, factor_small}
 
 -- ---- A variable of its own
@@ -44,6 +41,16 @@ set_ints e a b h = ap (λ (x : Blocks). x.ints) h
 pub set_bufs : (e : CExpr) (a b : Blocks) → b ≡ with_set e a → b.bufs ≡ a.bufs
 set_bufs e a b h = ap (λ (x : Blocks). x.bufs) h
 
+-- ---- Fresh names
+
+pub all_fresh_wider : (n n' m m' : ℕ) (xs : List Int) → n ≤ n' → m ≤ m' → AreFresh n' m xs → AreFresh n m' xs
+all_fresh_wider n n' m m' [] le le' h = tt
+all_fresh_wider n n' m m' (x ∷ xs) le le' h = (fresh_more n m m' x le' (fresh_wider n n' m x le h.0), all_fresh_wider n n' m m' xs le le' h.1)
+
+pub all_fresh_append : (n m : ℕ) (xs ys : List Int) → AreFresh n m xs → AreFresh n m ys → AreFresh n m (xs ++ ys)
+all_fresh_append n m [] ys h k = k
+all_fresh_append n m (x ∷ xs) ys h k = (h.0, all_fresh_append n m xs ys h.1 k)
+
 -- ---- Products
 
 pub products_none : (b : Blocks) (some : Int) (strides : List Int) → IsOld b.ints some → EmitsProducts b b some [] strides strides some
@@ -53,6 +60,7 @@ products_none b some strides old = record {
   names = [];
   in_front = refl;
   old_names = tt;
+  fresh_names = tt;
   old_last = old;
   declared = λ sc h le. h;
   as_many = refl;
@@ -75,6 +83,7 @@ products_built b0 b1 b2 some len behind v lengths before mid after value old_len
   names = int.Local b1.ints ∷ p.names;
   in_front = ea ∙ ap (λ (x : Int). x ∷ mid) en ∙ ap (λ (l : List Int). int.Local b1.ints ∷ l) p.in_front;
   old_names = (below, are_old_more b1.ints b2.ints p.names (omega (arith, ints2)) p.old_names);
+  fresh_names = (above, all_fresh_wider b0.ints b0.ints b1.ints b2.ints p.names (omega arith) (omega (arith, ints2)) p.fresh_names);
   old_last = subst (λ (x : Int). IsOld b2.ints x) (sym en) below;
   declared = λ sc h le. ap (is_int sc) en ∙ is_below b1.ints sc.ints (omega (arith, ints2, le));
   as_many = ap suc p.as_many;
@@ -90,6 +99,9 @@ products_built b0 b1 b2 some len behind v lengths before mid after value old_len
 
     below : IsOld b2.ints (int.Local b1.ints)
     below = omega (arith, ints2)
+
+    above : IsFresh b0.ints b2.ints (int.Local b1.ints)
+    above = let i = p.grown.ints in (omega (arith, i), omega (arith, ints2))
 
     more : (c : Code) (s : State) (ns : List ℕ) (f : ℕ) → Hold s (len ∷ lengths) ns → read_int some s ≡ Is (pos f) → f < 2 → AreBelow f ns → Does c (Stays b0.ints b0.bufs s) (length (len ∷ lengths)) (p.code ++ stmt.Set (int.Local b1.ints) (on_values op.Mul len behind) ∷ []) s (HoldProducts b0.ints b0.bufs f some (int.Local b1.ints ∷ p.names) ns v s) (λ kind t. ⊥)
     more c s [] f hold is small under = absurd hold
@@ -172,6 +184,7 @@ scalar_made b0 b3 base one some h = record {
   grown = h.grown;
   base_given = omega (arith, h.ints);
   strides_given = tt;
+  fresh = ((omega arith, omega (arith, h.ints)), tt);
   as_many = refl;
   formed = λ sc room within are bufs more more_bufs le. begins_formed sc b0.ints [] room (omega (arith, h.ints, more)) (omega (arith, le)) are;
   runs = λ c s ns size hold room small.
@@ -187,6 +200,7 @@ axes_made b0 b3 b4 base one some v len lengths strides old h p = record {
   grown = grown_then (begins n (some_element (len ∷ lengths))) p.code b0 b3 b4 h.grown p.grown;
   base_given = omega (arith, h.ints, p.grown.ints);
   strides_given = subst (λ (l : List Int). AreOld b4.ints l) (sym strides_are) (are_old_append b4.ints p.names (int.Local (n + 1) ∷ []) p.old_names (omega (arith, h.ints, p.grown.ints), tt));
+  fresh = ((omega arith, omega (arith, h.ints, p.grown.ints)), subst (λ (l : List Int). AreFresh n b4.ints l) (sym strides_are) own_strides);
   as_many = ap length strides_are ∙ length-append p.names (int.Local (n + 1) ∷ []) ∙ count p.as_many;
   formed = formed_is;
   runs = runs_are;
@@ -200,6 +214,11 @@ axes_made b0 b3 b4 base one some v len lengths strides old h p = record {
 
     strides_are : strides ≡ p.names ++ int.Local (n + 1) ∷ []
     strides_are = p.in_front ∙ ap (λ (x : Int). p.names ++ x ∷ []) h.one_is
+
+    own_strides : AreFresh n b4.ints (p.names ++ int.Local (n + 1) ∷ [])
+    own_strides =
+        all_fresh_append n b4.ints p.names (int.Local (n + 1) ∷ []) (all_fresh_wider n b3.ints b4.ints b4.ints p.names (omega (arith, h.ints)) (omega arith) p.fresh_names)
+        ((omega arith, omega (arith, h.ints, p.grown.ints)), tt)
 
     count : length p.names ≡ length lengths → length p.names + 1 ≡ length (len ∷ lengths)
     count e = omega (arith, e)

@@ -1,9 +1,8 @@
 -- What the code does that makes a stepper over a whole array.
-use Rattle.std.proofs.Common.{◌≡◌, ℕ, zero, suc, ◌+◌, ◌-◌, ◌*◌, ◌<◌, ◌≤◌, List, [], ◌∷◌, ◌++◌, ◌⊎◌, inl, inr, length, refl, sym, ap, ◌∙◌, subst, arith, append-nil, ℤ, true}
-use Rattle.std.specs.Prelude.{Option, Some, None, pos, ◌^◌, ◌+ℤ◌, ◌*ℤ◌, int_lt}
+use Rattle.std.proofs.Common.{◌≡◌, ℕ, zero, suc, ◌+◌, ◌*◌, ◌<◌, ◌≤◌, List, [], ◌∷◌, ◌++◌, ◌⊎◌, inl, inr, length, refl, sym, ap, ◌∙◌, subst, arith, ℤ}
+use Rattle.std.specs.Prelude.{Some, pos, ◌^◌, ◌+ℤ◌, ◌*ℤ◌, int_lt}
 use Rattle.std.proofs.lemmas.Bool.Decides.{nat_tests}
 use Rattle.std.proofs.lemmas.Int.{ints}
-use Rattle.std.proofs.Math.Nat.{mul-le-mul_left}
 use Rattle.aplc_scalar.specs.declared.kind.FaultKind.{FaultKind}
 use Rattle.aplc_scalar.specs.Scalar.{truth}
 use Rattle.aplc_arr.specs.Arrays.{product, IsIndexOf, place}
@@ -20,7 +19,7 @@ use Rattle.aplc_cprof.specs.Frames.{AreOld, IsOld, Stays, Hold}
 use Rattle.aplc_cprof.specs.Emitted.{on_values}
 use Rattle.aplc_cprof.proofs.Values.{value_Lit, value_Bin, ranged_below}
 use Rattle.aplc_cprof.proofs.Paths.{Does, does_then, does_weaken, does_none}
-use Rattle.aplc_cprof.proofs.Frames.{after_set, put_at, put_other, stays_none, stays_then, stays_less, stays_set, read_stays, hold_stays}
+use Rattle.aplc_cprof.proofs.Frames.{after_set, put_at, put_other, stays_none, stays_set, read_stays, hold_stays}
 use Rattle.aplc_cprof.proofs.Counting.{on_values_value, with_literal_value, does_set}
 use Rattle.aplc_step.specs.Steppers.{address, HoldInts, AreAxes, StepsOver}
 use Rattle.aplc_step.specs.Wholes.{some_element, products_by, AreBelow, HoldProducts}

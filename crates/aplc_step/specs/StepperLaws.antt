@@ -1,7 +1,7 @@
 -- Why the test of a stepper looks only at its names, and gives only numbers of the machine's range.
-use Rattle.std.proofs.Common.{◌≡◌, ℕ, ◌≤◌, List, [], ◌∷◌, refl, ap, ◌∙◌, arith, ℤ}
-use Rattle.std.specs.Prelude.{Option, Some, None, Ok, pos, max}
-use Rattle.aplc_scalar.specs.Scalar.{Given, IsInRange}
+use Rattle.std.proofs.Common.{◌≡◌, ℕ, List, [], ◌∷◌, refl, ap, ◌∙◌, ℤ}
+use Rattle.std.specs.Prelude.{Option, Some, None, Ok, pos}
+use Rattle.aplc_scalar.specs.Scalar.{IsInRange}
 use Rattle.aplc_cprof.specs.declared.syntax.Int.{Int}
 use Rattle.aplc_cprof.specs.declared.syntax.Op.TheVariants as op
 use Rattle.aplc_cprof.specs.Machine.{State, Value, Is, Bad, apply, item_at, read_int}
@@ -9,7 +9,7 @@ use Rattle.aplc_cprof.specs.WellFormed.{Scope}
 use Rattle.aplc_cprof.specs.Frames.{SameSeen}
 use Rattle.aplc_cprof.specs.Emitted.{joint}
 use Rattle.aplc_cprof.proofs.Frames.{seen_left, seen_right}
-use Rattle.aplc_collect.specs.Elements.{Test, ReadsWithin, GivesInRange, scope_of, one_step}
+use Rattle.aplc_collect.specs.Elements.{ReadsWithin, GivesInRange, scope_of, one_step}
 use Rattle.aplc_collect.specs.ElementLaws.{not_none, seen_int, seen_buf, number_in_range}
 use Rattle.aplc_step.specs.declared.stepper.Origin.{Origin}
 use Rattle.aplc_step.specs.declared.stepper.Origin.TheVariants as origin

@@ -1,14 +1,14 @@
 -- The elements of an array as cells of a buffer or of a table, by a base and a stride for each axis.
-use Rattle.std.specs.Prelude.{◌≡◌, ℕ, zero, suc, ◌+◌, ◌*◌, ◌<◌, ◌≤◌, List, [], ◌∷◌, slice_get, true, Option, Some, None, ℤ, pos, ◌+ℤ◌, ◌*ℤ◌}
+use Rattle.std.specs.Prelude.{◌≡◌, ℕ, ◌+◌, ◌<◌, List, [], ◌∷◌, slice_get, true, Option, Some, None, ℤ, pos, ◌+ℤ◌, ◌*ℤ◌}
 use Rattle.aplc_scalar.specs.Scalar.{Given, in_range}
-use Rattle.aplc_arr.specs.Arrays.{product, IsIndexOf}
+use Rattle.aplc_arr.specs.Arrays.{IsIndexOf}
 use Rattle.aplc_cprof.specs.declared.syntax.Int.{Int}
 use Rattle.aplc_cprof.specs.declared.syntax.Op.TheVariants as op
 use Rattle.aplc_cprof.specs.declared.syntax.CExpr.{CExpr}
 use Rattle.aplc_cprof.specs.declared.syntax.CExpr.TheVariants as expr
 use Rattle.aplc_cprof.specs.WellFormed.{Scope}
 use Rattle.aplc_cprof.specs.Machine.{State, Value, Is, Bad, apply, item_at, read_int}
-use Rattle.aplc_cprof.specs.Frames.{contents, Hold}
+use Rattle.aplc_cprof.specs.Frames.{IsFresh, contents, Hold}
 use Rattle.aplc_cprof.specs.Emitted.{no_names, joint, on_values}
 use Rattle.aplc_collect.specs.Elements.{Test, scope_of, scope_of_buf, number_of}
 use Rattle.aplc_step.specs.declared.stepper.Origin.{Origin}
@@ -33,6 +33,11 @@ origin_expr (origin.Table k) e = expr.Table k e
 abbrev pub scope_of_all : List Int → Scope
 scope_of_all [] = no_names
 scope_of_all (x ∷ xs) = joint (scope_of x) (scope_of_all xs)
+
+-- local variables, not given before the n-th, and given before the m-th
+abbrev pub AreFresh : ℕ → ℕ → List Int → Type 0
+AreFresh n m [] = Unit {0}
+AreFresh n m (x ∷ xs) = IsFresh n m x × AreFresh n m xs
 
 abbrev pub stepper_scope : Origin → Int → List Int → Scope
 stepper_scope from base strides = joint (origin_scope from) (joint (scope_of base) (scope_of_all strides))

@@ -1,6 +1,5 @@
 -- Steppers over whole buffers and tables, whose elements stand in row-major order.
-use Rattle.std.specs.Prelude.{◌≡◌, ℕ, zero, suc, ◌+◌, ◌*◌, ◌<◌, ◌≤◌, ◌^◌, List, [], ◌∷◌, ◌++◌, length, true, ℤ, pos}
-use Rattle.aplc_scalar.specs.declared.kind.FaultKind.{FaultKind}
+use Rattle.std.specs.Prelude.{◌≡◌, ℕ, ◌+◌, ◌*◌, ◌<◌, ◌≤◌, ◌^◌, List, [], ◌∷◌, ◌++◌, length, true, ℤ, pos}
 use Rattle.aplc_arr.specs.Arrays.{product, place}
 use Rattle.aplc_cprof.specs.declared.syntax.Int.{Int}
 use Rattle.aplc_cprof.specs.declared.syntax.Int.TheVariants as int
@@ -15,7 +14,7 @@ use Rattle.aplc_cprof.specs.Machine.{State, Code, Is, read_int}
 use Rattle.aplc_cprof.specs.Frames.{AreOld, IsOld, IsFresh, Stays, Hold}
 use Rattle.aplc_cprof.specs.Emitted.{no_names, Grown, IsFormed}
 use Rattle.aplc_cprof.proofs.Paths.{Does}
-use Rattle.aplc_step.specs.Steppers.{StepsOver, HoldInts, zeros}
+use Rattle.aplc_step.specs.Steppers.{AreFresh, StepsOver, HoldInts, zeros}
 
 -- a whole variable is given, and set to the value
 abbrev pub with_set : CExpr → Blocks → Blocks
@@ -51,6 +50,7 @@ pub record EmitsProducts (old new : Blocks) (some : Int) (lengths before after :
   pub names : List Int
   pub in_front : after ≡ names ++ before
   pub old_names : AreOld new.ints names
+  pub fresh_names : AreFresh old.ints new.ints names
   pub old_last : IsOld new.ints v
   pub declared : (sc : Scope) → is_int sc some ≡ true → new.ints ≤ sc.ints → is_int sc v ≡ true
   pub as_many : length names ≡ length lengths
@@ -63,13 +63,14 @@ pub record EmitsProducts (old new : Blocks) (some : Int) (lengths before after :
 abbrev pub whole_steps : ℕ → ℕ
 whole_steps rank = 3 + rank
 
--- Code after which the base and the strides go over an array of the lengths in these variables, whose elements are the
--- first cells in row-major order. It cannot fault, and leaves all else as it was.
+-- Code after which the base and the strides, which are variables of its own, go over an array of the lengths in these
+-- variables, whose elements are the first cells in row-major order. It cannot fault, and leaves all else as it was.
 pub record MakesStepper (old new : Blocks) (lengths : List Int) (base : Int) (strides : List Int) : Type 0 where
   pub code : List CStmt
   pub grown : Grown code old new
   pub base_given : IsOld new.ints base
   pub strides_given : AreOld new.ints strides
+  pub fresh : IsFresh old.ints new.ints base × AreFresh old.ints new.ints strides
   pub as_many : length strides ≡ length lengths
   pub formed : IsFormed no_names lengths [] new (1 + length lengths) code
   pub runs : (c : Code) (s : State) (ns : List ℕ) (size : ℕ) → Hold s lengths ns → product ns ≤ size → size < 2 ^ 31 → Does c (Stays old.ints old.bufs s) (whole_steps (length lengths)) code s (λ t. Stays old.ints old.bufs s t × StepsOver lengths base strides t ns (place ns) size) (λ kind t. ⊥)

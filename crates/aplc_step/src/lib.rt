@@ -12,4 +12,4 @@ mod whole;
 pub use extending::extend;
 pub use laws::elements_by_steppers;
 pub use stepper::{Origin, Stepper, element};
-pub use whole::{of_buffer, of_table};
+pub use whole::{of_buffer, of_table, some_element};

@@ -1,0 +1,4 @@
+pub mod Staged
+pub mod Computes
+pub mod Pieces
+pub mod Displays

@@ -1,39 +1,33 @@
 -- A number beside an array, which has its own shape.
-use Rattle.std.proofs.Common.{◌≡◌, ℕ, ◌+◌, ◌≤◌, List, [], ◌++◌, length, refl, sym, ap, ◌∙◌, subst, arith, ℤ, true}
-use Rattle.std.specs.Prelude.{Err, max}
+use Rattle.std.proofs.Common.{◌≡◌, ℕ, ◌+◌, ◌≤◌, List, length, refl, sym, ap, subst, arith, ℤ, true}
+use Rattle.std.specs.Prelude.{max}
 use Rattle.aplc_scalar.specs.declared.kind.Kind.{Kind}
 use Rattle.aplc_scalar.specs.declared.function.ScalarFn.{ScalarFn}
 use Rattle.aplc_scalar.specs.Scalar.{dyadic}
-use Rattle.aplc_arr.specs.Arrays.{Array, place, product}
-use Rattle.aplc_arr.specs.Delayed.{Prepared, computed}
+use Rattle.aplc_arr.specs.Arrays.{Array, place}
+use Rattle.aplc_arr.specs.Delayed.{Prepared}
 use Rattle.aplc_arr.specs.Each.{kinds_suit, common_shape}
 use Rattle.aplc_cprof.specs.declared.syntax.Int.{Int}
-use Rattle.aplc_cprof.specs.declared.syntax.CStmt.{CStmt}
 use Rattle.aplc_cprof.specs.Blocks.{Blocks}
-use Rattle.aplc_cprof.specs.WellFormed.{Scope}
-use Rattle.aplc_cprof.specs.Machine.{State, Code}
-use Rattle.aplc_cprof.specs.Frames.{AreGiven, AreOld, Stays, Hold}
-use Rattle.aplc_cprof.specs.Emitted.{joint, IsWithin, AreInts, IsFormed}
-use Rattle.aplc_cprof.proofs.Paths.{Does, does_then, does_weaken}
-use Rattle.aplc_cprof.proofs.Frames.{hold_stays}
-use Rattle.aplc_cprof.proofs.Emitted.{formed_append, grown_then, within_left, within_right}
+use Rattle.aplc_cprof.specs.Machine.{State}
+use Rattle.aplc_cprof.specs.Frames.{AreGiven, Hold}
+use Rattle.aplc_cprof.specs.Emitted.{joint}
+use Rattle.aplc_cprof.proofs.Emitted.{within_left, within_right}
 use Rattle.aplc_collect.specs.Elements.{Test, Steps, scope_of, scalar_test, one_step}
 use Rattle.aplc_collect.specs.Fused.{dyad_test, steps_of_two}
 use Rattle.aplc_collect.specs.Scalars.{dyad_steps, dyad_depth}
 use Rattle.aplc_step.specs.declared.stepper.Origin.{Origin}
-use Rattle.aplc_step.specs.Steppers.{AreFresh, origin_scope, scope_of_all, stepper_test, stepper_scope, StepsOver}
+use Rattle.aplc_step.specs.Steppers.{stepper_test, stepper_scope}
 use Rattle.aplc_step.specs.Wholes.{whole_steps, MakesStepper}
 use Rattle.aplc_stage.specs.declared.staged.Staged.{Staged}
 use Rattle.aplc_stage.specs.declared.staged.Staged.TheVariants as staged
-use Rattle.aplc_stage.specs.Staged.{scope_of_staged, Holds}
-use Rattle.aplc_stage.specs.Computes.{Computes, DyadicOf, NoFault}
+use Rattle.aplc_stage.specs.Staged.{scope_of_staged}
+use Rattle.aplc_stage.specs.Computes.{Computes, DyadicOf}
 use Rattle.aplc_stage.specs.Pieces.{OwnLengths, Gathers, Own}
-use Rattle.aplc_stage.proofs.Setting.{locals_old, locals_many}
-use Rattle.aplc_stage.proofs.Elements.{IsOldStaged, older, given_names, cells_few}
+use Rattle.aplc_stage.proofs.Elements.{IsOldStaged, older, given_names}
 use Rattle.aplc_stage.proofs.Scalars.{no_axes}
-use Rattle.aplc_stage.proofs.Parts.{lengths_declared, locals_fresh}
-use Rattle.aplc_stage.proofs.Leads.{hold_length, Leads, Fillable, computes_by}
-use Rattle.aplc_stage.proofs.Chains.{piece_last, piece_formed, stays_since, stepper_within, both_within}
+use Rattle.aplc_stage.proofs.Leads.{hold_length, Fillable, computes_by}
+use Rattle.aplc_stage.proofs.Chains.{both_within}
 use Rattle.aplc_stage.proofs.Ones.{HasSteps, leads_by, many, own_fresh, read_within}
 use Rattle.aplc_stage.proofs.Dyadics.{pair_later, ranks_held, scalar_suits, beside_scalar, scalar_reads, cells_read, pair_fillable}
 

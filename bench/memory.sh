@@ -6,6 +6,7 @@ export LC_ALL=C
 top=$(cd "$(dirname "$(readlink -f "${BASH_SOURCE[0]}")")/.." && pwd)
 aplc=$("$top/.ci/build") || exit 9
 [ -x /usr/bin/time ] || { echo "/usr/bin/time is not here" >&2; exit 1; }
+export GLIBC_TUNABLES="${GLIBC_TUNABLES:-glibc.malloc.mmap_threshold=131072}" # as ./aplc has it
 work=$(mktemp -d) || exit 1
 trap 'rm -rf "$work"' EXIT
 most=262144

@@ -4,6 +4,7 @@ use Rattle.std.proofs.lemmas.Bool.Decides.{nat_tests}
 use Rattle.aplc_cprof.specs.declared.syntax.CStmt.{CStmt}
 use Rattle.aplc_cprof.specs.declared.syntax.CStmt.TheVariants as stmt
 use Rattle.aplc_cprof.specs.Blocks.{Blocks}
+use Rattle.aplc_cprof.specs.Emitted.{Grown}
 use Rattle.aplc_gen.specs.Layouts.{Site, the_frame, frame_of, routine_at, the_routine, function_place, left_passed, right_passed}
 use Rattle.aplc_gen.specs.Emitted.{count_up, clear_code, take_code, enter_by, pass_code, got_code, is_giving, call_code, result_code, count_down, leave_by, leave_code}
 use Rattle.aplc_gen.specs.Writing.{added, fits_term, fits_tree}
@@ -18,6 +19,12 @@ added_twice x y b = ap (λ (l : List CStmt). record b { inner = l }) (append_ass
 
 pub added_after : (x y : List CStmt) (b b1 b2 : Blocks) → b1 ≡ added x b → b2 ≡ added y b1 → b2 ≡ added (x ++ y) b
 added_after x y b b1 b2 e f = f ∙ ap (added y) e ∙ added_twice x y b
+
+pub added_grown : (code : List CStmt) (a b : Blocks) → b ≡ added code a → Grown code a b
+added_grown code a b e =
+    let i : b.ints ≡ a.ints = ap (λ (x : Blocks). x.ints) e in
+    let j : b.bufs ≡ a.bufs = ap (λ (x : Blocks). x.bufs) e in
+    record { inner = ap (λ (x : Blocks). x.inner) e; outer = ap (λ (x : Blocks). x.outer) e; ints = omega (arith, i); bufs = omega (arith, j) }
 
 -- ---- Calls
 

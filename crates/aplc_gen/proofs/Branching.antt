@@ -1,48 +1,33 @@
 -- The branch that ends a line.
-use Rattle.std.proofs.Common.{◌≡◌, ℕ, zero, suc, ◌+◌, ◌<◌, ◌≤◌, List, [], ◌∷◌, ◌++◌, ◌⊎◌, inl, inr, ⊎_elim, refl, sym, ap, ◌∙◌, subst, arith, append_assoc, ℤ, pos, Bool, true, false, length}
-use Rattle.std.specs.Prelude.{Option, Some, None, map, drop}
+use Rattle.std.proofs.Common.{◌≡◌, ℕ, zero, suc, ◌<◌, ◌≤◌, List, ◌++◌, ◌⊎◌, inl, inr, ⊎_elim, refl, sym, ap, ◌∙◌, subst, arith, ℤ, pos, Bool, true, false, length}
+use Rattle.std.specs.Prelude.{Option, Some, None, drop}
 use Rattle.std.proofs.lemmas.Bool.{cases_lt, eq-eqb}
 use Rattle.aplc_arr.specs.Arrays.{Array}
 use Rattle.aplc_cprof.specs.declared.syntax.Int.TheVariants as int
 use Rattle.aplc_cprof.specs.declared.syntax.CExpr.TheVariants as expr
-use Rattle.aplc_cprof.specs.declared.syntax.CStmt.{CStmt}
-use Rattle.aplc_cprof.specs.declared.syntax.CStmt.TheVariants as stmt
 use Rattle.aplc_cprof.specs.Machine.{Todo, Code, Caller, Is, read_int, numbered, size, total}
 use Rattle.aplc_cprof.specs.Machine as machine
-use Rattle.aplc_cprof.proofs.Paths.{numbered-append}
 use Rattle.aplc_cprof.proofs.Values.{value_Lit}
 use Rattle.aplc_cprof.proofs.Rules.{Any, Comes, comes_runs}
-use Rattle.aplc_cprof.proofs.Matching.{ends_then, Course}
-use Rattle.aplc_cprof.proofs.Matching as matching
 use Rattle.aplc_cprof.proofs.Writes.{Written, written_here}
-use Rattle.aplc_names.specs.States.{Places, Place, State, Marking, Outcome, Gives, and_then, on_account, ended}
-use Rattle.aplc_names.specs.Eager.{Context, line_named, branch_to, branched}
+use Rattle.aplc_names.specs.States.{Places, Place, State, Marking, Outcome, Gives}
+use Rattle.aplc_names.specs.Eager.{line_named}
 use Rattle.aplc_names.specs.Runs.{result_of, place_of, after}
 use Rattle.aplc_core.specs.PlainSteps.{Term}
-use Rattle.aplc_core.specs.CoreRuns.{Told, Slots, CoreRoutine, PlainCore, term_value, core_run}
-use Rattle.aplc_gen.specs.Sound.{Ready, is_term, term_cost}
-use Rattle.aplc_gen.specs.Layouts.{Layout, Site, the_routine, the_frame, line_place, base}
-use Rattle.aplc_gen.specs.Emitted.{Lead, out, to, computed, landing, lead_at, lead_of_line, lead_by, known_number, lead, may_lead, is_out, is_entry, operand, tree_code, known_after, branch_code, go_to, site_at}
-use Rattle.aplc_gen.specs.Laid.{is_laid_term}
-use Rattle.aplc_gen.proofs.Relation.{course, Fails, Waits, IsNumber, Bounds, Here, Between, Computed, TreesDo, works, pay_if, owe, pay}
-use Rattle.aplc_gen.proofs.Writes.{set_does, quiet_written, globals_local, locals_local, between_kept, Looser, looser_trans, between_looser}
-use Rattle.aplc_gen.proofs.Outcomes.{course_then, then_then, run_none}
-use Rattle.aplc_gen.proofs.Leaving.{Left, Stands, Goal}
+use Rattle.aplc_core.specs.CoreRuns.{CoreRoutine, PlainCore, core_run}
+use Rattle.aplc_gen.specs.Layouts.{Layout, Site, the_routine, the_frame, line_place}
+use Rattle.aplc_gen.specs.Emitted.{Lead, out, to, computed, landing, lead_at, lead_of_line, lead_by, known_number, lead, may_lead, is_out, is_entry, go_to, site_at}
+use Rattle.aplc_gen.specs.Codes.{LeadsBy, exit_code}
+use Rattle.aplc_gen.specs.Relation.{Bounds, Between, owe, pay}
+use Rattle.aplc_gen.proofs.Writes.{set_does, quiet_written, globals_local, locals_local, between_kept, Looser, between_looser}
+use Rattle.aplc_gen.proofs.Outcomes.{run_none}
+use Rattle.aplc_gen.proofs.Leaving.{Stands, Goal}
 use Rattle.aplc_gen.proofs.Landing.{past_lines}
 use Rattle.aplc_gen.proofs.Reaching.{from_drop, drop_past}
-use Rattle.aplc_gen.proofs.Knowing.{Among, after_more}
-use Rattle.aplc_gen.proofs.Computing.{value_literal, here_computed}
+use Rattle.aplc_gen.proofs.Knowing.{Among}
 use Rattle.aplc_gen.proofs.Lines.{at_line, with_fuel, Sits, Room, IsHead, HeadDoes, skips}
 use Rattle.aplc_gen.proofs.Heads.{leaves}
-use Rattle.aplc_gen.proofs.Stepping.{is_same, static_of, branch_number, line_over, here_between}
-
-pay_owe : (w : Bool) (d : ℕ) (b : Bounds) → Looser (owe 1 (pay_if w (owe d b))) (pay_if w (owe (1 + d) b))
-pay_owe true d b = record { lines = omega arith; fuel = omega arith; credit = omega arith; set = λ n h. h }
-pay_owe false d b = record { lines = omega arith; fuel = omega arith; credit = omega arith; set = λ n h. h }
-
-pay_less : (w : Bool) (d : ℕ) (b : Bounds) → Looser (pay_if w (owe d b)) (pay_if w (owe (1 + d) b))
-pay_less true d b = record { lines = omega arith; fuel = omega arith; credit = omega arith; set = λ n h. h }
-pay_less false d b = record { lines = omega arith; fuel = omega arith; credit = omega arith; set = λ n h. h }
+use Rattle.aplc_gen.proofs.Stepping.{line_over}
 
 module _ (c : Code) (n : ℕ) (p : PlainCore) (y : Layout) (m : Marking) (rank : ℕ → ℕ) (first : Bool) (j k : ℕ) (heads : (i : ℕ) → i ≤ k → HeadDoes c n p y m rank i) where
   abbrev g : Site
@@ -64,16 +49,16 @@ module _ (c : Code) (n : ℕ) (p : PlainCore) (y : Layout) (m : Marking) (rank :
         (between_kept g b 1 known (place_of f.header) behind cs S.world u w (quiet_written (int.Local (line_place g)) z u w written) (globals_local y (line_place g) z u w written) (locals_local g (line_place g) z u w (omega arith) written) h))
 
     -- a number that is known: the code leads to the first line from there on that has steps, or out
-    lands : (z : ℤ) (known : List ℕ) (i : ℕ) (t : Term) (old : List ℕ) (S : State) (u : machine.State) → lead f t ≡ lead_of_line f (line_named z) →
+    lands : (z : ℤ) (known : List ℕ) (i : ℕ) (t : Term) (S : State) (u : machine.State) → lead f t ≡ lead_of_line f (line_named z) →
         ((q : ℕ) → may_lead (lead f t) q ≡ true → is_entry f q ≡ true) → (is_out (lead f t) ≡ false → IsHead (site_at y p first j) head) → Among (the_frame (site_at y p first j)).sure known →
-        u.todo ≡ numbered i (branch_code (site_at y p first j) old t (lead f t)) ++ head →
+        u.todo ≡ numbered i (exit_code (site_at y p first j) (lead f t)) ++ head →
         Between (site_at y p first j) (line_over k a) known (place_of f.header) behind cs S.world u → Comes c Any u (At k (line_named z) S)
-    lands z known i t old S u is leads loops sure due h = by (line_named z) is
+    lands z known i t S u is leads loops sure due h = by (line_named z) is
       where
         leave_now : (i' : ℕ) (T : State) → lead f t ≡ out → Between (site_at y p first j) (pay 98 (with_fuel i' a)) known (place_of f.header) behind cs T.world u → Comes c Any u (Goal c n (site_at y p first j) (with_fuel i' a) outer cs (Gives (result_of f.header.result T.world.locals) T))
         leave_now i' T lead_is h' =
             leaves c n p y m rank first j (pay 98 (with_fuel i' a)) i' a i known behind outer cs head T u stands (record { lines = omega arith; fuel = omega arith; credit = omega arith; set = λ n h. h }) sure
-            (due ∙ ap (λ (d : Lead). numbered i (branch_code g old t d) ++ head) lead_is) h'
+            (due ∙ ap (λ (d : Lead). numbered i (exit_code g d) ++ head) lead_is) h'
 
         over : Looser (line_over k a) (pay 98 (with_fuel k a))
         over = record { lines = omega arith; fuel = omega arith; credit = omega arith; set = λ n h. h }
@@ -98,67 +83,26 @@ module _ (c : Code) (n : ℕ) (p : PlainCore) (y : Layout) (m : Marking) (rank :
                 (λ i' e T le found h'.
                 let lead_is : lead f t ≡ to (suc e) = is ∙ ap lead_at found in
                 comes_runs c Any i (go_to g (suc e)) head u (Written (int.Local (line_place g)) (pos (suc e)) u) (λ w. ⊥) (At i' (suc e) T)
-                (due ∙ ap (λ (d : Lead). numbered i (branch_code g old t d) ++ head) lead_is)
+                (due ∙ ap (λ (d : Lead). numbered i (exit_code g d) ++ head) lead_is)
                 (set_does c (int.Local (line_place g)) (expr.Lit (pos (suc e))) u (λ w. ⊥) (pos (suc e)) (value_Lit (pos (suc e)) c.tables u))
                 (λ w at written. goes i' le 0 (pos (suc e)) (λ w. ⊥) known (pay 98 (with_fuel i' a)) T u w (loops (ap is_out lead_is)) (λ l' same inside. subst (λ q. is_entry f q ≡ true) same (leads (suc e) (ap (λ (d : Lead). may_lead d (suc e)) lead_is ∙ eq-eqb (suc e) (suc e) refl))) sure (record { lines = omega arith; fuel = omega arith; credit = omega arith; set = λ n h. h }) at written h')
                 (λ w none. absurd none))
                 (λ i' T found h'. leave_now i' T (is ∙ ap lead_at found) h')
 
-    -- the code of a branch goes on where its value says
-    pub branch_comes : TreesDo c n → (line : ℕ) (x : Context) (l : Told) (b : Bounds) (known : List ℕ) (r : Ready) (slots : Slots) (ps : Places) (i : ℕ) (t : Term) (S : State) (s : machine.State) →
-        x.scope ≡ f.header.scope → ps.here.function ≡ (place_of f.header).function → ps.behind ≡ behind →
+    -- behind the steps of a line that a branch ends, the code goes on where the branch leads
+    pub branch_leads : (l i : ℕ) (t : Term) (known : List ℕ) (on : Option ℕ) (T : State) (u : machine.State) →
         ((q : ℕ) → may_lead (lead f t) q ≡ true → is_entry f q ≡ true) → (is_out (lead f t) ≡ false → IsHead (site_at y p first j) head) → Among (the_frame (site_at y p first j)).sure known →
-        is_term f.header.scope l r t ≡ true → is_laid_term (site_at y p first j) known t ≡ true → Looser (pay_if (works l t) (owe (1 + term_cost t) b)) (line_over k a) →
-        s.todo ≡ numbered i (branch_code (site_at y p first j) known t (lead f t)) ++ head → Here (site_at y p first j) b known r slots ps cs S.world s →
-        Comes c Any s (Goal c n (site_at y p first j) (with_fuel k a) outer cs (and_then (and_then (term_value x l slots t S) (λ v T. branched (branch_to v) T)) (λ target T. core_run p m k (the_routine (site_at y p first j)) (after line target) T)))
-    branch_comes trees line x l b known r slots ps i t S s scoped function around leads loops sure ok laid budget due h = by (known_number f.header.scope t) refl
+        u.todo ≡ numbered i (exit_code (site_at y p first j) (lead f t)) ++ head → LeadsBy (site_at y p first j) l (known_number f.header.scope t) on u →
+        Between (site_at y p first j) (line_over k a) known (place_of f.header) behind cs T.world u → Comes c Any u (At k (after l on) T)
+    branch_leads l i t known on T u leads loops sure due where_to h = by (known_number f.header.scope t) refl where_to
       where
-        next : Option ℕ → State → Outcome (Option Array)
-        next target T = core_run p m k (the_routine (site_at y p first j)) (after line target) T
-
-        value : Outcome Array
-        value = term_value x l slots t S
-
-        rest_of : Array → State → Outcome (Option Array)
-        rest_of v T = and_then (branched (branch_to v) T) next
-
-        whole : course (and_then (and_then value (λ v T. branched (branch_to v) T)) next) ≡ matching.and_then (course value) (λ v T. course (rest_of v T))
-        whole = ap course (then_then value (λ v T. branched (branch_to v) T) next) ∙ course_then value rest_of
-
-        behind_tree : (v : Array) (T : State) (u : machine.State) → Computed c n g known (base g) l t S s v T u → Between g (pay_if (works l t) (owe (term_cost t) b)) (known_after known t) (place_of f.header) behind cs T.world u
-        behind_tree v T u q = here_between g (pay_if (works l t) (owe (term_cost t) b)) (known_after known t) r slots ps cs (place_of f.header) behind T.world u function around (here_computed c n g b known r slots ps cs (base g) l t S s v T u (omega arith) q h)
-
-        number : (v : Array) (z : ℤ) (T : State) (u : machine.State) → IsNumber v z → Comes c Any u (At k (line_named z) (on_account ended T)) → Comes c Any u (Goal c n (site_at y p first j) (with_fuel k a) outer cs (rest_of v T))
-        number v z T u is goes = subst (λ (o : Outcome (Option ℕ)). Comes c Any u (Goal c n (site_at y p first j) (with_fuel k a) outer cs (and_then o next))) (sym (branch_number v z T is)) goes
-
-        then : (code : List CStmt) (rest : Todo) → tree_code g known (base g) t ≡ code → s.todo ≡ numbered i code ++ rest → ((v : Array) (T : State) (u : machine.State) → u.todo ≡ rest → Computed c n g known (base g) l t S s v T u → Comes c Any u (Goal c n (site_at y p first j) (with_fuel k a) outer cs (rest_of v T))) → Comes c Any s (Goal c n (site_at y p first j) (with_fuel k a) outer cs (and_then (and_then value (λ v T. branched (branch_to v) T)) next))
-        then code rest is due go =
-            subst (λ (o : Course State (Option Array)). Comes c Any s (matching.Ends c Any State Fails (Waits n) o (Left g (with_fuel k a) outer cs))) (sym whole)
-            (ends_then c Any State Fails (Waits n) i (tree_code g known (base g) t) rest s (course value) (λ v T. course (rest_of v T)) (Computed c n g known (base g) l t S s) (Left g (with_fuel k a) outer cs)
-            (due ∙ ap (λ (code : List CStmt). numbered i code ++ rest) (sym is)) (trees g x l b known r slots ps cs (base g) t S s scoped (omega arith) ok laid h) go)
-
-        by : (o : Option ℤ) → known_number f.header.scope t ≡ o → Comes c Any s (Goal c n (site_at y p first j) (with_fuel k a) outer cs (and_then (and_then value (λ v T. branched (branch_to v) T)) next))
-        by (Some z) is =
-            let static = static_of g known (base g) l r t z is ok in
-            then [] (numbered i (branch_code g known t (lead f t)) ++ head) static.code due
-            (λ v T u at q.
-            let same = is_same q.holds.number z (sym q.holds.value ∙ ap (λ e. machine.value e c.tables u) static.operand_is ∙ value_literal c z u static.fits) in
-            number v z T u (subst (λ w. IsNumber v w) same q.holds.is)
-            (lands z (known_after known t) i t known (on_account ended T) u (ap (lead_by f) is) leads loops (λ w among. after_more known t w (sure w among)) at
-            (between_looser g (pay_if (works l t) (owe (term_cost t) b)) (line_over k a) (known_after known t) (place_of f.header) behind cs T.world u (looser_trans (pay_if (works l t) (owe (term_cost t) b)) (pay_if (works l t) (owe (1 + term_cost t) b)) (line_over k a) (pay_less (works l t) (term_cost t) b) budget) (behind_tree v T u q))))
-        by None is =
+        by : (o : Option ℤ) → known_number f.header.scope t ≡ o → LeadsBy (site_at y p first j) l o on u → Comes c Any u (At k (after l on) T)
+        by (Some z) is on_is =
+            subst (λ q. Comes c Any u (At k q T)) (sym (ap (after l) on_is))
+            (lands z known i t T u (ap (lead_by f) is) leads loops sure due h)
+        by None is (z, line, to_is) =
             let lead_is : lead f t ≡ computed = ap (lead_by f) is in
-            let set : CStmt = stmt.Set (int.Local (line_place g)) (operand g (base g) t) in
-            let code = tree_code g known (base g) t in
-            let i' = i + total (map size code) in
-            then code (numbered i' (set ∷ []) ++ head) refl
-            (due ∙ ap (λ (d : Lead). numbered i (branch_code g known t d) ++ head) lead_is ∙ ap (λ (xs : Todo). xs ++ head) (numbered-append i code (set ∷ [])) ∙ append_assoc (numbered i code) (numbered i' (set ∷ [])) head)
-            (λ v T u at q.
-            let z = q.holds.number in
-            number v z T u q.holds.is
-            (comes_runs c Any i' (set ∷ []) head u (Written (int.Local (line_place g)) z u) (λ w. ⊥) (At k (line_named z) (on_account ended T)) at
-            (set_does c (int.Local (line_place g)) (operand g (base g) t) u (λ w. ⊥) z q.holds.value)
-            (λ w at' written. goes k (omega arith) 0 z (λ w. ⊥) (known_after known t) (pay_if (works l t) (owe (term_cost t) b)) (on_account ended T) u w (loops (ap is_out lead_is)) (λ l' same inside. leads (suc l') (ap (λ (d : Lead). may_lead d (suc l')) lead_is)) (λ w among. after_more known t w (sure w among))
-            (looser_trans (owe 1 (pay_if (works l t) (owe (term_cost t) b))) (pay_if (works l t) (owe (1 + term_cost t) b)) (pay 80 (with_fuel k a)) (pay_owe (works l t) (term_cost t) b) (looser_trans (pay_if (works l t) (owe (1 + term_cost t) b)) (line_over k a) (pay 80 (with_fuel k a)) budget (record { lines = omega arith; fuel = omega arith; credit = omega arith; set = λ n h. h })))
-            at' written (behind_tree v T u q))
-            (λ w none. absurd none)))
+            subst (λ q. Comes c Any u (At k q T)) to_is
+            (heads k (omega arith) first j head z known a behind outer cs T u more sits stands room (loops (ap is_out lead_is)) (due ∙ ap (λ (d : Lead). numbered i (exit_code g d) ++ head) lead_is) line
+            (λ l' same inside. leads (suc l') (ap (λ (d : Lead). may_lead d (suc l')) lead_is)) sure
+            (between_looser g (line_over k a) (pay 80 (with_fuel k a)) known (place_of f.header) behind cs T.world u (record { lines = omega arith; fuel = omega arith; credit = omega arith; set = λ n h. h }) h))

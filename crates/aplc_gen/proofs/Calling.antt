@@ -24,8 +24,8 @@ use Rattle.aplc_gen.specs.Shown.{place_shown}
 use Rattle.aplc_gen.specs.Layouts.{Layout, Site, function_place, routine_at, the_routine, the_frame, global_base}
 use Rattle.aplc_gen.specs.Layouts as layouts
 use Rattle.aplc_gen.specs.Sound.{is_own_name}
-use Rattle.aplc_gen.specs.Emitted.{first_known, lines_loop, run_code, enter_by, count_up, clear_code, take_code, body_code, site_at}
-use Rattle.aplc_gen.proofs.Relation.{course, Fails, Waits, Passed, Returned, Bounds, IsCounted, Common, Between, CallsDo, StepsDo, TreesDo, owe, pay}
+use Rattle.aplc_gen.specs.Emitted.{first_known, enter_by, count_up, clear_code, take_code, site_at}
+use Rattle.aplc_gen.specs.Relation.{course, Fails, Waits, Passed, Returned, Bounds, IsCounted, Common, Between, CallsDo, owe, pay}
 use Rattle.aplc_gen.proofs.Writes.{globals_kept, counted_same, Looser, between_looser}
 use Rattle.aplc_gen.proofs.Frames.{and_right}
 use Rattle.aplc_gen.proofs.Entries.{count_up_faults}
@@ -94,7 +94,7 @@ module _ (c : Code) (n : ℕ) (p : PlainCore) (y : Layout) (m : Marking) (rank :
         passed_called (Some i) q (Some v) rest todo h = record { number = h.number; is = h.is; value = h.value }
 
         body : List CStmt
-        body = body_code (site_at y p false j)
+        body = enter_by (site_at y p false j) false ++ (callable j among).run
 
         goes : nat_lt (depth S.world.places) 4096 ≡ true → (rest : Todo) → Comes c Any (called c s rest (numbered k_is.place body)) (Ends c Any State Fails (Waits n) (course (and_then o kont)) (λ v T t. (t.callers ≡ above s rest) × Back c n p y m rank j k b S s rest v T t))
         goes lt rest =
@@ -103,17 +103,17 @@ module _ (c : Code) (n : ℕ) (p : PlainCore) (y : Layout) (m : Marking) (rank :
             let i = k_is.place + total (map size enter) in
             let sits = k_is.sits in
             let less = below lt in
-            let run = run_code g (lines_loop f f.steps) in
+            let run = k_is.run in
             comes_less c Any s0 (Goal c n g (with_fuel k (pay 3000 b)) S.world.places (above s rest) o) (Ends c Any State Fails (Waits n) (course (and_then o kont)) (λ v T t. (t.callers ≡ above s rest) × Back c n p y m rank j k b S s rest v T t))
             (λ t d. ends_back c n p y m rank j k b S s rest o t d)
             (comes_runs c Any k_is.place enter (numbered i run ++ []) s0 (Between g (owe (7 + length (the_frame g).unsure) (pay (4096 * header_count f.header) (tick b))) (first_known g) (place_of f.header) (S.world.places.here ∷ S.world.places.behind) (above s rest) (entered_world f.header a x S.world)) (λ u. ⊥) (Goal c n g (with_fuel k (pay 3000 b)) S.world.places (above s rest) o)
             (numbered-append k_is.place enter run ∙ ap (λ (zs : Todo). numbered k_is.place enter ++ zs) (sym (append-nil (numbered i run))))
             (enter_does c g k_is.base_is refl a x (tick b) (above s rest) S.world s0 (λ u. ⊥) sits.laid.left sits.laid.right (reads c n p y m rank f.header a x S.world k_is.own) less (ticked rest (numbered k_is.place body)) here refl (passed_called f.header.left 2 a rest (numbered k_is.place body) left) (passed_called f.header.right 1 x rest (numbered k_is.place body) right))
             (λ u at q.
-            run_starts c n p y m rank false j k i (pay 3000 b) (S.world.places.here ∷ S.world.places.behind) S.world.places (above s rest) (entered f.header a x S) u does more sits
+            run_starts c n p y m rank false j k i run (pay 3000 b) (S.world.places.here ∷ S.world.places.behind) S.world.places (above s rest) (entered f.header a x S) u does more sits
             (record { calls = λ e. k_is.base_is; called = λ e. refl; alone = λ e. absurd (cc); few = omega (arith, less); laid = sits.laid.result; own = and_right (is_own_name f.header.scope f.header.right) (is_own_name f.header.scope f.header.result) (and_right (is_own_name f.header.scope f.header.left) (and_of f.header) k_is.own) })
             (record { few = omega (arith, less); shallow = λ e. let low = shallow e in omega (arith, low) })
-            at
+            k_is.is_run at
             (between_looser g (owe (7 + length (the_frame g).unsure) (pay (4096 * header_count f.header) (tick b))) (pay 80 (at_line (pay 3000 b) 1 k)) (first_known g) (place_of f.header) (S.world.places.here ∷ S.world.places.behind) (above s rest) (entered_world f.header a x S.world) u (enough sits.laid.few) q))
             (λ u none. absurd none))
           where
@@ -158,7 +158,7 @@ module _ (c : Code) (n : ℕ) (p : PlainCore) (y : Layout) (m : Marking) (rank :
             limit : (rest : Todo) → Comes c Any (called c s rest (numbered k_is.place body)) (Ends c Any State Fails (Waits n) limited (λ v T t. (t.callers ≡ above s rest) × ⊥))
             limit rest =
                 let s0 = called c s rest (numbered k_is.place body) in
-                let run = run_code g (lines_loop f f.steps) in
+                let run = k_is.run in
                 let i = k_is.place + total (map size (count_up y.counted)) in
                 let q = ticked rest (numbered k_is.place body) in
                 comes_runs c Any k_is.place (count_up y.counted) (numbered i (more_code ++ run)) s0 (λ u. ⊥) (λ u. FaultsAt c fault.Limit u × Fails fault.Limit S u) (Ends c Any State Fails (Waits n) limited (λ v T t. (t.callers ≡ above s rest) × ⊥))
@@ -182,34 +182,33 @@ module _ (c : Code) (n : ℕ) (p : PlainCore) (y : Layout) (m : Marking) (rank :
 
   -- ---- The induction
 
-  module _ (trees : TreesDo c n) (steps : (k : ℕ) → CallsDo c n p y m rank k → StepsDo c n p y m rank k) where
-    abbrev Both : ℕ → Type 0
-    Both k = LinesDo c n p y m rank false k × LinesDo c n p y m rank true k
+  abbrev Both : ℕ → Type 0
+  Both k = LinesDo c n p y m rank false k × LinesDo c n p y m rank true k
 
-    abbrev All : ℕ → Type 0
-    All k = (i : ℕ) → i ≤ k → Both i
+  abbrev All : ℕ → Type 0
+  All k = (i : ℕ) → i ≤ k → Both i
 
-    fresh : (k : ℕ) → All k → (i : ℕ) → i ≤ k → LinesDo c n p y m rank false i
-    fresh k all i le = (all i le).0
+  fresh : (k : ℕ) → All k → (i : ℕ) → i ≤ k → LinesDo c n p y m rank false i
+  fresh k all i le = (all i le).0
 
-    next_both : (k : ℕ) → All k → Both (suc k)
-    next_both k all =
-        let heads : (i : ℕ) → i ≤ k → HeadDoes c n p y m rank i = λ i le. head_of c n p y m rank i (λ q less. (all q (omega (arith, less, le))).0) in
-        let stepped = steps k (calls_of k (fresh k all)) in
-        let a = fresh_do c n p y m rank k heads trees stepped (all k (omega arith)).0 (all k (omega arith)).1 in
-        (a, through_do c n p y m rank k heads trees stepped (all k (omega arith)).0 (all k (omega arith)).1 (head_of c n p y m rank (suc k) (λ q less. below q less a)))
-      where
-        below : (q : ℕ) → q ≤ suc k → LinesDo c n p y m rank false (suc k) → LinesDo c n p y m rank false q
-        below q less a = ⊎_elim (λ lt. (all q (omega (arith, lt))).0) (λ ge. let e : suc k ≡ q = omega (arith, ge, less) in subst (λ i. LinesDo c n p y m rank false i) e a) (cases_lt q (suc k))
+  next_both : (k : ℕ) → All k → Both (suc k)
+  next_both k all =
+      let heads : (i : ℕ) → i ≤ k → HeadDoes c n p y m rank i = λ i le. head_of c n p y m rank i (λ q less. (all q (omega (arith, less, le))).0) in
+      let calls = calls_of k (fresh k all) in
+      let a = fresh_do c n p y m rank k heads calls (all k (omega arith)).0 (all k (omega arith)).1 in
+      (a, through_do c n p y m rank k heads calls (all k (omega arith)).0 (all k (omega arith)).1 (head_of c n p y m rank (suc k) (λ q less. below q less a)))
+    where
+      below : (q : ℕ) → q ≤ suc k → LinesDo c n p y m rank false (suc k) → LinesDo c n p y m rank false q
+      below q less a = ⊎_elim (λ lt. (all q (omega (arith, lt))).0) (λ ge. let e : suc k ≡ q = omega (arith, ge, less) in subst (λ i. LinesDo c n p y m rank false i) e a) (cases_lt q (suc k))
 
-    pub all_do : (k : ℕ) → All k
-    all_do zero i le = let e : 0 ≡ i = omega (arith, le) in subst Both e (none_do c n p y m rank false, none_do c n p y m rank true)
-    all_do (suc k) i le = by (all_do k) (cases_lt i (suc k))
-      where
-        by : All k → (i < suc k) ⊎ (suc k ≤ i) → Both i
-        by all (inl lt) = all i (omega (arith, lt))
-        by all (inr ge) = let e : suc k ≡ i = omega (arith, ge, le) in subst Both e (next_both k all)
+  pub all_do : (k : ℕ) → All k
+  all_do zero i le = let e : 0 ≡ i = omega (arith, le) in subst Both e (none_do c n p y m rank false, none_do c n p y m rank true)
+  all_do (suc k) i le = by (all_do k) (cases_lt i (suc k))
+    where
+      by : All k → (i < suc k) ⊎ (suc k ≤ i) → Both i
+      by all (inl lt) = all i (omega (arith, lt))
+      by all (inr ge) = let e : suc k ≡ i = omega (arith, ge, le) in subst Both e (next_both k all)
 
-    -- the code of lines at which the function or an arm begins does what runs say
-    pub lines_do : (k i : ℕ) → i ≤ k → LinesDo c n p y m rank false i
-    lines_do k i le = (all_do k i le).0
+  -- the code of lines at which the function or an arm begins does what runs say
+  pub lines_do : (k i : ℕ) → i ≤ k → LinesDo c n p y m rank false i
+  lines_do k i le = (all_do k i le).0

@@ -6,6 +6,7 @@ use Rattle.std.proofs.lemmas.Bool.{eq-eqb}
 use Rattle.aplc_arr.specs.Arrays.{Array}
 use Rattle.aplc_cprof.specs.declared.syntax.Int.TheVariants as int
 use Rattle.aplc_cprof.specs.declared.syntax.CExpr.TheVariants as expr
+use Rattle.aplc_cprof.specs.declared.syntax.CStmt.{CStmt}
 use Rattle.aplc_cprof.specs.declared.syntax.CStmt.TheVariants as stmt
 use Rattle.aplc_cprof.specs.Machine.{Todo, Code, Caller, Is, read_int, numbered, size, total, settled}
 use Rattle.aplc_cprof.specs.Machine as machine
@@ -23,8 +24,9 @@ use Rattle.aplc_core.specs.CoreRuns.{CoreRoutine, PlainCore, core_run}
 use Rattle.aplc_gen.specs.Shown.{place_shown}
 use Rattle.aplc_gen.specs.Sound.{is_own, is_own_name, has_own_names}
 use Rattle.aplc_gen.specs.Layouts.{Layout, Site, frame_of, function_place, the_routine, the_frame, line_place, global_base}
-use Rattle.aplc_gen.specs.Emitted.{landing, first_line, is_entry, entry_known, first_known, lines_loop, steps_loop, lines_code, go_to, loop_code, run_code, enter_by, enter_code, body_code, count_up, clear_code, take_code, site_at}
-use Rattle.aplc_gen.proofs.Relation.{course, Fails, Waits, Returned, Bounds, Between, owe, pay}
+use Rattle.aplc_gen.specs.Emitted.{landing, first_line, is_entry, entry_known, first_known, lines_loop, steps_loop, go_to, enter_by, enter_code, count_up, clear_code, take_code, site_at}
+use Rattle.aplc_gen.specs.Codes.{turn_code, IsRun}
+use Rattle.aplc_gen.specs.Relation.{course, Fails, Waits, Returned, Bounds, Between, owe, pay}
 use Rattle.aplc_gen.proofs.Writes.{set_does, quiet_written, globals_kept, counted_same, counted_other, globals_local, locals_local, between_kept, between_looser}
 use Rattle.aplc_gen.proofs.Frames.{Gone, and_left, and_right, own_value, result_kept}
 use Rattle.aplc_gen.proofs.Entered.{entered_world}
@@ -32,7 +34,7 @@ use Rattle.aplc_gen.proofs.Leaving.{Stands, Goal}
 use Rattle.aplc_gen.specs.Emitted as emitted
 use Rattle.aplc_gen.proofs.Landing.{Lines, From, from_all, from_next, eq_of, or_cases, or_left}
 use Rattle.aplc_gen.proofs.Reaching.{landing_full}
-use Rattle.aplc_gen.proofs.Lines.{at_line, with_fuel, Sits, Room, LinesDo, skips}
+use Rattle.aplc_gen.proofs.Lines.{at_line, with_fuel, Sits, Room, Line, LinesDo, skips}
 use Rattle.aplc_gen.proofs.Heads.{loop_full}
 
 -- ---- The beginning of a function's lines
@@ -53,11 +55,11 @@ landing_inside f l ((x ∷ more) ∷ xs) e from h = let count = from.count in om
 
 module _ (c : Code) (n : ℕ) (p : PlainCore) (y : Layout) (m : Marking) (rank : ℕ → ℕ) where
   -- from before the first line
-  pub run_starts : (first : Bool) (j k i : ℕ) (a : Bounds) (behind : List Place) (outer : Places) (cs : List Caller) (S : State) (s : machine.State) → ((i : ℕ) → i ≤ k → LinesDo c n p y m rank false i) → n ≤ a.lines → Sits y p rank first j → Stands (site_at y p first j) outer behind cs → Room y rank j behind →
-      s.todo ≡ numbered i (run_code (site_at y p first j) (lines_loop (the_routine (site_at y p first j)) (the_routine (site_at y p first j)).steps)) ++ [] →
+  pub run_starts : (first : Bool) (j k i : ℕ) (code : List CStmt) (a : Bounds) (behind : List Place) (outer : Places) (cs : List Caller) (S : State) (s : machine.State) → ((i : ℕ) → i ≤ k → LinesDo c n p y m rank false i) → n ≤ a.lines → Sits y p rank first j → Stands (site_at y p first j) outer behind cs → Room y rank j behind →
+      IsRun (Line (site_at y p first j)) (site_at y p first j) (lines_loop (the_routine (site_at y p first j)) (the_routine (site_at y p first j)).steps) code → s.todo ≡ numbered i code ++ [] →
       Between (site_at y p first j) (pay 80 (at_line a 1 k)) (first_known (site_at y p first j)) (place_of (the_routine (site_at y p first j)).header) behind cs S.world s →
       Comes c Any s (Goal c n (site_at y p first j) (with_fuel k a) outer cs (core_run p m k (the_routine (site_at y p first j)) 1 S))
-  run_starts first j k i a behind outer cs S s does more sits stands room due h = by (lines_loop (the_routine (site_at y p first j)) (the_routine (site_at y p first j)).steps) refl
+  run_starts first j k i code a behind outer cs S s does more sits stands room its due h = by (lines_loop (the_routine (site_at y p first j)) (the_routine (site_at y p first j)).steps) refl its
     where
       g : Site
       g = site_at y p first j
@@ -65,27 +67,26 @@ module _ (c : Code) (n : ℕ) (p : PlainCore) (y : Layout) (m : Marking) (rank :
       f : CoreRoutine
       f = the_routine (site_at y p first j)
 
-      by : (b : Bool) → lines_loop (the_routine (site_at y p first j)) (the_routine (site_at y p first j)).steps ≡ b → Comes c Any s (Goal c n (site_at y p first j) (with_fuel k a) outer cs (core_run p m k (the_routine (site_at y p first j)) 1 S))
-      by false none =
-          does k (omega arith) first j 1 i f.steps (first_known g) [] a behind outer cs S s more sits stands room (λ looping. absurd (differ looping none)) (λ t. absurd (cc)) (from_all f) sits.laid.lines sits.laid.sure
-          (due ∙ ap (λ (b : Bool). numbered i (run_code g b) ++ []) none)
+      by : (b : Bool) → lines_loop (the_routine (site_at y p first j)) (the_routine (site_at y p first j)).steps ≡ b → IsRun (Line (site_at y p first j)) (site_at y p first j) b code → Comes c Any s (Goal c n (site_at y p first j) (with_fuel k a) outer cs (core_run p m k (the_routine (site_at y p first j)) 1 S))
+      by false none its =
+          does k (omega arith) first j 1 i f.steps code (first_known g) [] a behind outer cs S s more sits stands room (λ looping. absurd (differ looping none)) (λ t. absurd (cc)) (from_all f) sits.laid.lines sits.laid.sure its due
           (between_looser g (pay 80 (at_line a 1 k)) (pay 60 (at_line a 1 k)) (first_known g) (place_of f.header) behind cs S.world s (record { lines = omega arith; fuel = omega arith; credit = omega arith; set = λ n h. h }) h)
         where
           differ : lines_loop f f.steps ≡ true → lines_loop f f.steps ≡ false → ⊥
           differ a b = absurd (cc)
-      by true looping =
+      by true looping (all, at, arms) =
           skips c n p y m rank first j 80 k 1 f.steps (first_known g) a behind outer cs S s more sits.few (from_all f) h
           (λ i' e T le found h'.
-          comes_runs c Any i (go_to g (first_line f)) (numbered (i + size (stmt.Set (int.Local (line_place g)) (expr.Lit (pos (first_line f))))) (loop_code g ∷ []) ++ []) s (Written (int.Local (line_place g)) (pos (first_line f)) s) (λ u. ⊥) (Goal c n g (with_fuel i' a) outer cs (core_run p m i' f (suc e) T))
-          (due ∙ ap (λ (b : Bool). numbered i (run_code g b) ++ []) looping)
+          comes_runs c Any i (go_to g (first_line f)) (numbered (i + size (stmt.Set (int.Local (line_place g)) (expr.Lit (pos (first_line f))))) (turn_code g all ∷ []) ++ []) s (Written (int.Local (line_place g)) (pos (first_line f)) s) (λ u. ⊥) (Goal c n g (with_fuel i' a) outer cs (core_run p m i' f (suc e) T))
+          (due ∙ ap (λ (zs : List CStmt). numbered i zs ++ []) at)
           (set_does c (int.Local (line_place g)) (expr.Lit (pos (first_line f))) s (λ u. ⊥) (pos (first_line f)) (value_Lit (pos (first_line f)) c.tables s))
-          (λ u at w.
-          loop_full c n p y m rank first j i' (does i' le) e (i + size (stmt.Set (int.Local (line_place g)) (expr.Lit (pos (first_line f))))) [] (first_known g) a behind outer cs T u more sits stands room
+          (λ u due w.
+          loop_full c n p y m rank first j i' (does i' le) e (i + size (stmt.Set (int.Local (line_place g)) (expr.Lit (pos (first_line f))))) all [] (first_known g) a behind outer cs T u more sits stands room arms
           (landing_inside f 1 f.steps e (from_all f) found)
           (or_left (nat_eq (suc e) (first_line f)) (emitted.lines_lead f f.steps (suc e)) (eq-eqb (suc e) (first_line f) (sym found)))
           (landing_full f 1 f.steps e (from_all f) found)
           (λ q among. subst (λ (zs : List ℕ). is_among q zs ≡ true) (ap (λ (b : Bool). cond b (first_known g) (the_frame g).sure) (eq-eqb (suc e) (first_line f) (sym found))) among)
-          at (written_here (int.Local (line_place g)) (pos (first_line f)) s u w ∙ ap (λ l. Is (pos l)) found)
+          due (written_here (int.Local (line_place g)) (pos (first_line f)) s u w ∙ ap (λ l. Is (pos l)) found)
           (between_looser g (owe 1 (pay 80 (with_fuel i' a))) (pay 66 (with_fuel i' a)) (first_known g) (place_of f.header) behind cs T.world u (record { lines = omega arith; fuel = omega arith; credit = omega arith; set = λ n h. h })
           (between_kept g (pay 80 (with_fuel i' a)) 1 (first_known g) (place_of f.header) behind cs T.world s u (quiet_written (int.Local (line_place g)) (pos (first_line f)) s u w) (globals_local y (line_place g) (pos (first_line f)) s u w) (locals_local g (line_place g) (pos (first_line f)) s u (omega arith) w) h')))
           (λ u none. absurd none))
@@ -113,7 +114,9 @@ module _ (c : Code) (n : ℕ) (p : PlainCore) (y : Layout) (m : Marking) (rank :
     pub base_is : global_base y ≡ 5
     pub own : has_own_names (the_routine (site_at y p false j)).header ≡ true
     pub place : ℕ
-    pub body : slice_get c.bodies (function_place y j) ≡ Some (numbered place (body_code (site_at y p false j)))
+    pub run : List CStmt
+    pub is_run : IsRun (Line (site_at y p false j)) (site_at y p false j) (lines_loop (the_routine (site_at y p false j)) (the_routine (site_at y p false j)).steps) run
+    pub body : slice_get c.bodies (function_place y j) ≡ Some (numbered place (enter_code (site_at y p false j) ++ run))
 
   -- what comes back of it
   abbrev pub Back : (j k : ℕ) (b : Bounds) (S : State) (s : machine.State) → Todo → Option Array → State → machine.State → Type 0

@@ -23,7 +23,7 @@ use Rattle.aplc_cprof.proofs.Rules.{Any, Runs, FaultsAt, runs_none, runs_If}
 use Rattle.aplc_cprof.proofs.Singles.{runs_Check, runs_Check_limit, runs_Fault}
 use Rattle.aplc_cprof.proofs.Writes.{Written, written, written_here}
 use Rattle.aplc_gen.specs.Emitted.{guard, local, minus_code, is_times, checked_of, checked_code}
-use Rattle.aplc_gen.proofs.Relation.{Kept}
+use Rattle.aplc_gen.specs.Relation.{Kept}
 use Rattle.aplc_gen.proofs.Values.{signed, signed_fits}
 use Rattle.aplc_gen.proofs.Operands.{kept_todo, kept_written}
 

@@ -17,7 +17,7 @@ use Rattle.aplc_gen.specs.Shown.{place_shown}
 use Rattle.aplc_gen.specs.Sound.{Ready, term_cost}
 use Rattle.aplc_gen.specs.Layouts.{Site, the_frame, base, local_value, local_flag, global_value, global_flag}
 use Rattle.aplc_gen.specs.Emitted.{literal_expr, known_after}
-use Rattle.aplc_gen.proofs.Relation.{IsNamed, Bounds, Here, Kept, Computed, works, gain, owe, pay_if}
+use Rattle.aplc_gen.specs.Relation.{IsNamed, Bounds, Here, Kept, Computed, works, gain, owe, pay_if}
 use Rattle.aplc_gen.proofs.Writes.{locals_kept, globals_kept, ready_kept, counted_same, counted_other}
 use Rattle.aplc_gen.proofs.Knowing.{after_more}
 

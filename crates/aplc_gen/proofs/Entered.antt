@@ -20,7 +20,7 @@ use Rattle.aplc_gen.specs.Layouts.{Site, the_frame, the_routine, global_base}
 use Rattle.aplc_gen.specs.Layouts as layouts
 use Rattle.aplc_gen.specs.Emitted.{count_up, clear_code, take_code, enter_by, first_known}
 use Rattle.aplc_gen.specs.Laid.{is_laid_name}
-use Rattle.aplc_gen.proofs.Relation.{Passed, Bounds, Common, Between, owe, pay}
+use Rattle.aplc_gen.specs.Relation.{Passed, Bounds, Common, Between, owe, pay}
 use Rattle.aplc_gen.proofs.Writes.{globals_kept, counted_same, counted_other, held_kept}
 use Rattle.aplc_gen.proofs.Entries.{Sinking, OnlyLocals, only_trans, Cleared, clear_does, Enters, take_does, none_set, count_up_does}
 

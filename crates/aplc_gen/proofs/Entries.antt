@@ -23,7 +23,7 @@ use Rattle.aplc_gen.specs.Layouts.{Layout, Site, the_frame, the_routine, global_
 use Rattle.aplc_gen.specs.Layouts as layouts
 use Rattle.aplc_gen.specs.Emitted.{deep, count_up, clear_code, flag_code, take_code}
 use Rattle.aplc_gen.specs.Laid.{is_laid_name}
-use Rattle.aplc_gen.proofs.Relation.{IsNamed, Locals, Passed, IsCounted}
+use Rattle.aplc_gen.specs.Relation.{IsNamed, Locals, Passed, IsCounted}
 use Rattle.aplc_gen.proofs.Writes.{set_does, place_below, Quiet, quiet_written, quiet_todo, quiet_less, quiet_trans, held_kept, locals_set, local_differs, global_differs, sorts_differ}
 
 one_more : (k : ℕ) → (pos k +ℤ pos 1) ≡ pos (suc k)

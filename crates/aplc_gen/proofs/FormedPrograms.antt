@@ -1,7 +1,6 @@
 -- The C program of a program is well formed.
 use Rattle.std.proofs.Common.{◌≡◌, ℕ, zero, suc, ◌+◌, ◌<◌, ◌≤◌, true, false, Bool, cond, List, [], ◌∷◌, ◌++◌, length, refl, ap, ◌∙◌, sym, subst, arith, ℤ, pos, negsuc}
-use Rattle.std.specs.Prelude.{Option, Some, None, map, max, ◌^◌, int_lt, nat_lt, nat_eq, nat_le, ◌&&◌, slice_get, unwrap_or, option_and_then}
-use Rattle.std.proofs.Math.Nat.{le-max_left, le-max_right, max-le}
+use Rattle.std.specs.Prelude.{Option, Some, None, map, ◌^◌, int_lt, nat_lt, nat_eq, nat_le, ◌&&◌, slice_get, unwrap_or, option_and_then}
 use Rattle.std.proofs.lemmas.Bool.{eqb-true}
 use Rattle.std.proofs.lemmas.Bool.Decides.{nat_tests}
 use Rattle.aplc_scalar.specs.declared.kind.FaultKind.TheVariants as fault
@@ -13,65 +12,25 @@ use Rattle.aplc_cprof.specs.declared.syntax.CStmt.{CStmt}
 use Rattle.aplc_cprof.specs.declared.syntax.CStmt.TheVariants as stmt
 use Rattle.aplc_cprof.specs.declared.syntax.Arm.{Arm}
 use Rattle.aplc_cprof.specs.declared.syntax.CFunction.{CFunction}
+use Rattle.aplc_cprof.specs.declared.syntax.CProgram.{CProgram}
 use Rattle.aplc_cprof.specs.WellFormed as formed
 use Rattle.aplc_cprof.specs.WellFormed.{ArmTest, is_int, is_plain, is_name, is_expr, is_stmt, are_stmts, arm_test, arms_fit, rise_above, inside, declared, is_count, is_formed, IsWellFormed}
 use Rattle.aplc_cprof.proofs.Forms.{is_Switch, is_Fault, is_Enter, is_arm}
 use Rattle.aplc_cprof.proofs.Emitted.{both_true, and_left, and_right, is_below, one_inside, var_formed, one_stmt, set_formed, if_formed, while_formed}
 use Rattle.aplc_names.specs.PlainPrograms.{header_count}
 use Rattle.aplc_names.specs.States.{is_among}
-use Rattle.aplc_core.specs.PlainSteps.{Term, Literal, Read, Slot, Mono, Dyad, Index, Effect, Keep, Store, StoreAt, Call, ReadText, ReadNums, Show, Branch}
-use Rattle.aplc_core.specs.CoreRuns.{told, CoreRoutine, PlainCore, no_core}
+use Rattle.aplc_core.specs.PlainSteps.{Effect}
+use Rattle.aplc_core.specs.CoreRuns.{CoreRoutine, PlainCore, no_core}
 use Rattle.aplc_gen.specs.Layouts.{Layout, Site, the_routine, the_frame, depth, right_passed, left_passed, for_calls, global_ints, local_value, local_flag, line_place, base}
 use Rattle.aplc_gen.specs.Laid.{are_laid_lines, are_laid_arms, are_among, known_at_end, is_laid_name, is_laid_result, is_laid_site, are_laid_sites, is_counted, IsLaid, HasCounts}
-use Rattle.aplc_gen.specs.Sound.{term_cost, effect_cost, effects_cost, are_effects, nothing_ready, is_line, are_lines, has_own_names, is_routine, are_routines, begins, is_sound}
-use Rattle.aplc_gen.specs.Emitted.{scope_at, width, Lead, out, to, computed, landing, lead_at, first_line, is_entry, lines_loop, go_to, flag_code, leave_code, lines_code, first_known, entry_known, is_line_test, lead_code, arm_code, arms, clear_code, take_code, deep, count_up, count_first, enter_by, enter_code, loop_code, run_code, body_code, step_width, steps_width, lines_width, function_code, site_at, called_code, program_code}
+use Rattle.aplc_gen.specs.Sound.{is_line, are_lines, has_own_names, is_routine, are_routines, begins, is_sound}
+use Rattle.aplc_gen.specs.Emitted.{scope_at, Lead, out, to, computed, landing, lead_at, first_line, is_entry, lines_loop, go_to, flag_code, leave_code, first_known, entry_known, is_line_test, lead_code, clear_code, take_code, deep, count_up, count_first, enter_by, enter_code, site_at}
+use Rattle.aplc_gen.specs.Codes.{Declares, line_depth, IsLine, Either, AreLines, IsArm, AreArms, turn_code, IsRun, IsBody, IsFunction, AreCalled, IsProgramOf}
 use Rattle.aplc_gen.proofs.FormedTrees.{number_formed, beside_number, one, two, joined, local_int, local_value_int, local_flag_int}
 use Rattle.aplc_gen.proofs.FormedSteps.{landing_le, lead_at_is, call_int, counted_int, leave_formed, go_formed, flag_formed, lines_formed}
 
--- ---- Widths
-
 le_of : (a b : ℕ) → nat_le a b ≡ true → a ≤ b
 le_of a b h = grind (arith, nat_tests, h)
-
-width_cost : (t : Term) → width t ≤ term_cost t
-width_cost (Literal i k zs) = omega arith
-width_cost (Read i n) = omega arith
-width_cost (Slot i k) = omega arith
-width_cost (Mono i f b) = let h = width_cost b in max-le (omega arith) (omega (arith, h))
-width_cost (Dyad i f a b) =
-    let h = width_cost a in
-    let k = width_cost b in
-    max-le (omega (arith, k)) (omega (arith, h))
-width_cost (Index i a xs) = omega arith
-
-step_width_cost : (x : Effect) → step_width x ≤ effect_cost x
-step_width_cost (Keep k t) = let h = width_cost t in omega (arith, h)
-step_width_cost (Store i n t) = let h = width_cost t in omega (arith, h)
-step_width_cost (StoreAt i n xs t) = omega arith
-step_width_cost (Call i n a b r) = omega arith
-step_width_cost (ReadText i k) = omega arith
-step_width_cost (ReadNums i k) = omega arith
-step_width_cost (Show o t) = let h = width_cost t in omega (arith, h)
-step_width_cost (Branch t) = let h = width_cost t in omega (arith, h)
-
-steps_width_cost : (xs : List Effect) → steps_width xs ≤ effects_cost xs
-steps_width_cost [] = omega arith
-steps_width_cost (x ∷ xs) =
-    let h = step_width_cost x in
-    let k = steps_width_cost xs in
-    max-le (omega (arith, h)) (omega (arith, k))
-
-lines_narrow : (p : PlainCore) (sc : _) (xs : List (List Effect)) → are_lines p sc xs ≡ true → lines_width xs ≤ 2000
-lines_narrow p sc [] ok = omega arith
-lines_narrow p sc (x ∷ xs) ok =
-    let line = and_left (is_line p sc x) (are_lines p sc xs) ok in
-    let cost = le_of (effects_cost x) 2000 (and_right (are_effects p sc (told x) nothing_ready x) (nat_le (effects_cost x) 2000) line) in
-    let h = steps_width_cost x in
-    max-le (omega (arith, h, cost)) (lines_narrow p sc xs (and_right (is_line p sc x) (are_lines p sc xs) ok))
-
-length_map : {A B : Type 0} (f : A → B) (xs : List A) → length (map f xs) ≡ length xs
-length_map f [] = refl
-length_map f (x ∷ xs) = ap suc (length_map f xs)
 
 -- ---- Arms
 
@@ -79,7 +38,10 @@ length_map f (x ∷ xs) = ap suc (length_map f xs)
 abbrev First : Site → ℕ → List (List Effect) → Type 0
 First g l xs = l ≤ first_line (the_routine g) → (first_line (the_routine g) ≡ landing l xs) × (are_laid_lines g (first_known g) false l xs ≡ true)
 
-module _ (sc : formed.Scope) (g : Site) (enough : base g ≤ sc.ints) (others : global_ints g.layout ≤ sc.global_ints) (p : PlainCore) (functions : suc (length g.layout.called) ≤ sc.functions) (leaves : (room : ℕ) → 2 ≤ room → are_stmts sc (leave_code g) (Some room) ≡ true) where
+module _ (sc : formed.Scope) (g : Site) (ints bufs : ℕ) (enough : base g ≤ sc.ints) (all_ints : ints ≤ sc.ints) (all_bufs : bufs ≤ sc.bufs) (declares : Declares g.layout sc) (counted : is_counted g.layout.called g.layout.counted ≡ true) (leaves : (room : ℕ) → 2 ≤ room → are_stmts sc (leave_code g) (Some room) ≡ true) (short : length (the_routine g).steps ≤ 999) where
+  others : global_ints g.layout ≤ sc.global_ints
+  others = declares.ints
+
   lead_formed : (b : Lead) (room : ℕ) → 2 ≤ room → ((k : ℕ) → b ≡ to k → k < 5000) → are_stmts sc (lead_code g b) (Some room) ≡ true
   lead_formed out room le bound = leaves room le
   lead_formed (to k) room le bound = go_formed sc g enough others k room (bound k refl)
@@ -88,23 +50,22 @@ module _ (sc : formed.Scope) (g : Site) (enough : base g ≤ sc.ints) (others : 
   test_formed : (l room : ℕ) → l < 5000 → 1 ≤ room → is_expr sc (is_line_test g l) (Some room) ≡ true
   test_formed l room lt le = beside_number sc op.Equal (int.Local (line_place g)) l room (local_int sc g enough others (line_place g) (omega arith)) lt le
 
-  module _ (short : length (the_routine g).steps ≤ 999) (named : is_name (the_routine g).header.title ≡ true) where
-    arm_formed : (l room : ℕ) (xs : List (List Effect)) → 4 ≤ room → l + length xs < 4000 → are_lines p (scope_at g) xs ≡ true → base g + lines_width xs ≤ sc.ints
+  module _ (named : is_name (the_routine g).header.title ≡ true) where
+    arm_formed : (l room : ℕ) (xs : List (List Effect)) (code : List CStmt) → IsArm (IsLine g ints bufs) g l xs code → 202 ≤ room → l + length xs < 4000 → are_lines g.program (scope_at g) xs ≡ true
         → are_laid_lines g (the_frame g).sure false l xs ≡ true
         → (nat_eq l (first_line (the_routine g)) ≡ true → are_laid_lines g (first_known g) false l xs ≡ true)
-        → are_stmts sc (arm_code g l xs) (Some room) ≡ true
-    arm_formed l room [] big lt ok le laid laid_first = refl
-    arm_formed l room ([] ∷ xs) big lt ok le laid laid_first =
-        lead_formed (lead_at (landing (l + 1) xs)) room (omega (arith, big))
-        (λ k e. let is = lead_at_is (landing (l + 1) xs) k e in let few = landing_le (l + 1) xs k is in omega (arith, few, lt))
-    arm_formed l room ((x ∷ more) ∷ xs) big lt ok le laid laid_first =
-        one sc (stmt.While (is_line_test g l) body) room
-        (while_formed sc 2 room (is_line_test g l) body (omega (arith, big)) (test_formed l room (omega (arith, lt)) (omega (arith, big)))
-        (λ r two. lines_formed sc g enough others p functions leaves short named (entry_known g l) false r l ((x ∷ more) ∷ xs) (omega (arith, lt)) ok (either (nat_eq l (first_line (the_routine g))) laid_first) le two))
+        → are_stmts sc code (Some room) ≡ true
+    arm_formed l room [] code is big lt ok laid laid_first = ap (λ (ss : List CStmt). are_stmts sc ss (Some room)) is
+    arm_formed l room ([] ∷ xs) code is big lt ok laid laid_first =
+        ap (λ (ss : List CStmt). are_stmts sc ss (Some room)) is
+        ∙ lead_formed (lead_at (landing (l + 1) xs)) room (omega (arith, big))
+        (λ k e. let at = lead_at_is (landing (l + 1) xs) k e in let few = landing_le (l + 1) xs k at in omega (arith, few, lt))
+    arm_formed l room ((x ∷ more) ∷ xs) code (body, is, lines) big lt ok laid laid_first =
+        ap (λ (ss : List CStmt). are_stmts sc ss (Some room)) is
+        ∙ one sc (stmt.While (is_line_test g l) body) room
+        (while_formed sc line_depth room (is_line_test g l) body (omega (arith, big)) (test_formed l room (omega (arith, lt)) (omega (arith, big)))
+        (λ r deep. lines_formed sc g ints bufs enough all_ints all_bufs declares counted leaves short named (entry_known g l) false r l ((x ∷ more) ∷ xs) body lines (omega (arith, lt)) ok (either (nat_eq l (first_line (the_routine g))) laid_first) deep))
       where
-        body : List CStmt
-        body = lines_code g (entry_known g l) false l ((x ∷ more) ∷ xs)
-
         either : (b : Bool) → (b ≡ true → are_laid_lines g (first_known g) false l ((x ∷ more) ∷ xs) ≡ true) → are_laid_lines g (cond b (first_known g) (the_frame g).sure) false l ((x ∷ more) ∷ xs) ≡ true
         either true h = h refl
         either false h = laid
@@ -113,42 +74,49 @@ module _ (sc : formed.Scope) (g : Site) (enough : base g ≤ sc.ints) (others : 
     first_next l [] xs h = λ le. h (omega (arith, le))
     first_next l (y ∷ ys) xs h = λ le. let is = (h (omega (arith, le))).0 in absurd (omega (arith, le, is))
 
-    arms_formed : (l room : ℕ) (xs : List (List Effect)) → 5 ≤ room → l + length xs < 4000 → are_lines p (scope_at g) xs ≡ true → base g + lines_width xs ≤ sc.ints → are_laid_arms g l xs ≡ true → First g l xs → arms_fit (map (arm_test sc) (arms g l xs)) (Some room) ≡ true
-    arms_formed l room [] big lt ok le laid at_first = refl
-    arms_formed l room (x ∷ xs) big lt ok le laid at_first =
-        let here : steps_width x ≤ max (steps_width x) (lines_width xs) = le-max_left (steps_width x) (lines_width xs) in
-        let later : lines_width xs ≤ max (steps_width x) (lines_width xs) = le-max_right (steps_width x) (lines_width xs) in
+    arms_formed : (l room : ℕ) (xs : List (List Effect)) (all : List Arm) → AreArms (IsLine g ints bufs) g l xs all → 203 ≤ room → l + length xs < 4000 → are_lines g.program (scope_at g) xs ≡ true → are_laid_arms g l xs ≡ true → First g l xs → arms_fit (map (arm_test sc) all) (Some room) ≡ true
+    arms_formed l room [] all is big lt ok laid at_first = ap (λ (zs : List Arm). arms_fit (map (arm_test sc) zs) (Some room)) is
+    arms_formed l room (x ∷ xs) all is big lt ok laid at_first =
         let mine = and_left (cond (is_entry (the_routine g) l) (are_laid_lines g (the_frame g).sure false l (x ∷ xs)) true) (are_laid_arms g (l + 1) xs) laid in
-        let rest = arms_formed (l + 1) room xs big (omega (arith, lt)) (and_right (is_line p (scope_at g) x) (are_lines p (scope_at g) xs) ok) (omega (arith, le, later)) (and_right (cond (is_entry (the_routine g) l) (are_laid_lines g (the_frame g).sure false l (x ∷ xs)) true) (are_laid_arms g (l + 1) xs) laid) (first_next l x xs at_first) in
-        either (is_entry (the_routine g) l) mine
-        (λ h. one_inside (are_stmts sc (arm_code g l (x ∷ xs))) 4 room (omega (arith, big))
-        (λ r four. arm_formed l r (x ∷ xs) four lt ok le h (λ e. let is = eqb-true l (first_line (the_routine g)) e in (at_first (omega (arith, is))).1))) rest
+        either (is_entry (the_routine g) l) is mine
+        (λ body its h. one_inside (are_stmts sc body) 202 room (omega (arith, big))
+        (λ r enough. arm_formed l r (x ∷ xs) body its enough lt ok h (λ e. let same = eqb-true l (first_line (the_routine g)) e in (at_first (omega (arith, same))).1)))
+        (λ rest later. arms_formed (l + 1) room xs rest later big (omega (arith, lt)) (and_right (is_line g.program (scope_at g) x) (are_lines g.program (scope_at g) xs) ok) (and_right (cond (is_entry (the_routine g) l) (are_laid_lines g (the_frame g).sure false l (x ∷ xs)) true) (are_laid_arms g (l + 1) xs) laid) (first_next l x xs at_first))
       where
-        arm : Arm
-        arm = record { value = pos l; body = arm_code g l (x ∷ xs) }
+        Mine : List CStmt → Type 0
+        Mine body = IsArm (IsLine g ints bufs) g l (x ∷ xs) body
 
-        either : (b : Bool) → cond b (are_laid_lines g (the_frame g).sure false l (x ∷ xs)) true ≡ true
-            → (are_laid_lines g (the_frame g).sure false l (x ∷ xs) ≡ true → inside (Some room) (are_stmts sc (arm_code g l (x ∷ xs))) ≡ true)
-            → arms_fit (map (arm_test sc) (arms g (l + 1) xs)) (Some room) ≡ true
-            → arms_fit (map (arm_test sc) (cond b (record { value = pos l; body = arm_code g l (x ∷ xs) } ∷ arms g (l + 1) xs) (arms g (l + 1) xs))) (Some room) ≡ true
-        either false h mine k = k
-        either true h mine k =
-            both_true ((arm_test sc arm).fits (Some room)) (arms_fit (map (arm_test sc) (arms g (l + 1) xs)) (Some room))
-            (ap (λ (t : ArmTest). t.fits (Some room)) (is_arm sc arm) ∙ both_true (is_plain (pos l)) (inside (Some room) (are_stmts sc (arm_code g l (x ∷ xs)))) (is_below l (2 ^ 63) (omega (arith, lt))) (mine h)) k
+        Rest : List Arm → Type 0
+        Rest rest = AreArms (IsLine g ints bufs) g (l + 1) xs rest
 
-  arms_rise : (low : ℤ) (l : ℕ) (xs : List (List Effect)) → ((k : ℕ) → l ≤ k → int_lt low (pos k) ≡ true) → rise_above low (map (arm_test sc) (arms g l xs)) ≡ true
-  arms_rise low l [] above = refl
-  arms_rise low l (x ∷ xs) above =
-      either (is_entry (the_routine g) l) (arms_rise low (l + 1) xs (λ k le. above k (omega (arith, le)))) (arms_rise (pos l) (l + 1) xs (λ k le. grind (arith, nat_tests, le)))
+        either : (b : Bool) → Either b ((body : List CStmt) × (rest : List Arm) × (all ≡ record { value = pos l; body = body } ∷ rest) × IsArm (IsLine g ints bufs) g l (x ∷ xs) body × AreArms (IsLine g ints bufs) g (l + 1) xs rest) (AreArms (IsLine g ints bufs) g (l + 1) xs all)
+            → cond b (are_laid_lines g (the_frame g).sure false l (x ∷ xs)) true ≡ true
+            → ((body : List CStmt) → Mine body → are_laid_lines g (the_frame g).sure false l (x ∷ xs) ≡ true → inside (Some room) (are_stmts sc body) ≡ true)
+            → ((rest : List Arm) → Rest rest → arms_fit (map (arm_test sc) rest) (Some room) ≡ true)
+            → arms_fit (map (arm_test sc) all) (Some room) ≡ true
+        either false later h mine k = k all later
+        either true (body, rest, is, its, later) h mine k =
+            let arm : Arm = record { value = pos l; body = body } in
+            ap (λ (zs : List Arm). arms_fit (map (arm_test sc) zs) (Some room)) is
+            ∙ both_true ((arm_test sc arm).fits (Some room)) (arms_fit (map (arm_test sc) rest) (Some room))
+            (ap (λ (t : ArmTest). t.fits (Some room)) (is_arm sc arm) ∙ both_true (is_plain (pos l)) (inside (Some room) (are_stmts sc body)) (is_below l (2 ^ 63) (omega (arith, lt))) (mine body its h)) (k rest later)
+
+  arms_rise : (low : ℤ) (l : ℕ) (xs : List (List Effect)) (all : List Arm) → AreArms (IsLine g ints bufs) g l xs all → ((k : ℕ) → l ≤ k → int_lt low (pos k) ≡ true) → rise_above low (map (arm_test sc) all) ≡ true
+  arms_rise low l [] all is above = ap (λ (zs : List Arm). rise_above low (map (arm_test sc) zs)) is
+  arms_rise low l (x ∷ xs) all is above =
+      either (is_entry (the_routine g) l) is (λ rest later. arms_rise low (l + 1) xs rest later (λ k le. above k (omega (arith, le)))) (λ rest later. arms_rise (pos l) (l + 1) xs rest later (λ k le. grind (arith, nat_tests, le)))
     where
-      arm : Arm
-      arm = record { value = pos l; body = arm_code g l (x ∷ xs) }
+      Rest : List Arm → Type 0
+      Rest rest = AreArms (IsLine g ints bufs) g (l + 1) xs rest
 
-      either : (b : Bool) → rise_above low (map (arm_test sc) (arms g (l + 1) xs)) ≡ true → rise_above (pos l) (map (arm_test sc) (arms g (l + 1) xs)) ≡ true → rise_above low (map (arm_test sc) (cond b (record { value = pos l; body = arm_code g l (x ∷ xs) } ∷ arms g (l + 1) xs) (arms g (l + 1) xs))) ≡ true
-      either false h k = h
-      either true h k =
-          ap (λ (v : ℤ). int_lt low v && rise_above v (map (arm_test sc) (arms g (l + 1) xs))) (ap (λ (t : ArmTest). t.value) (is_arm sc arm))
-          ∙ both_true (int_lt low (pos l)) (rise_above (pos l) (map (arm_test sc) (arms g (l + 1) xs))) (above l (omega arith)) k
+      either : (b : Bool) → Either b ((body : List CStmt) × (rest : List Arm) × (all ≡ record { value = pos l; body = body } ∷ rest) × IsArm (IsLine g ints bufs) g l (x ∷ xs) body × AreArms (IsLine g ints bufs) g (l + 1) xs rest) (AreArms (IsLine g ints bufs) g (l + 1) xs all)
+          → ((rest : List Arm) → Rest rest → rise_above low (map (arm_test sc) rest) ≡ true) → ((rest : List Arm) → Rest rest → rise_above (pos l) (map (arm_test sc) rest) ≡ true) → rise_above low (map (arm_test sc) all) ≡ true
+      either false later h k = h all later
+      either true (body, rest, is, its, later) h k =
+          let arm : Arm = record { value = pos l; body = body } in
+          ap (λ (zs : List Arm). rise_above low (map (arm_test sc) zs)) is
+          ∙ ap (λ (v : ℤ). int_lt low v && rise_above v (map (arm_test sc) rest)) (ap (λ (t : ArmTest). t.value) (is_arm sc arm))
+          ∙ both_true (int_lt low (pos l)) (rise_above (pos l) (map (arm_test sc) rest)) (above l (omega arith)) (k rest later)
 
   -- ---- The way in
 
@@ -191,45 +159,37 @@ module _ (sc : formed.Scope) (g : Site) (enough : base g ≤ sc.ints) (others : 
 
   -- ---- Functions
 
-  module _ (short : length (the_routine g).steps ≤ 999) (named : is_name (the_routine g).header.title ≡ true) where
-    loop_formed : (room : ℕ) → 8 ≤ room → are_lines p (scope_at g) (the_routine g).steps ≡ true → base g + lines_width (the_routine g).steps ≤ sc.ints
-        → are_laid_lines g (first_known g) false 1 (the_routine g).steps ≡ true → are_laid_arms g 1 (the_routine g).steps ≡ true → is_stmt sc (loop_code g) (Some room) ≡ true
-    loop_formed room big ok le laid arms_laid =
-        while_formed sc 7 room (expr.Lit (pos 1)) (switch ∷ []) (omega (arith, big)) (number_formed sc 1 room (omega arith))
-        (λ r seven. one sc switch r
+  module _ (named : is_name (the_routine g).header.title ≡ true) where
+    loop_formed : (room : ℕ) (all : List Arm) → AreArms (IsLine g ints bufs) g 1 (the_routine g).steps all → 206 ≤ room → are_lines g.program (scope_at g) (the_routine g).steps ≡ true
+        → are_laid_lines g (first_known g) false 1 (the_routine g).steps ≡ true → are_laid_arms g 1 (the_routine g).steps ≡ true → is_stmt sc (turn_code g all) (Some room) ≡ true
+    loop_formed room all its big ok laid arms_laid =
+        while_formed sc 205 room (expr.Lit (pos 1)) (switch ∷ []) (omega (arith, big)) (number_formed sc 1 room (omega arith))
+        (λ r more. one sc switch r
         (is_Switch sc (int.Local (line_place g)) all (leave_code g) (Some r)
         ∙ both_true (is_int sc (int.Local (line_place g)) && rise_above (negsuc 0) tests) (inside (Some r) (λ q. arms_fit tests q && inside q (are_stmts sc (leave_code g))))
-        (both_true (is_int sc (int.Local (line_place g))) (rise_above (negsuc 0) tests) (local_int sc g enough others (line_place g) (omega arith)) (arms_rise (negsuc 0) 1 (the_routine g).steps (λ k le1. refl)))
-        (one_inside (λ q. arms_fit tests q && inside q (are_stmts sc (leave_code g))) 6 r (omega (arith, seven))
+        (both_true (is_int sc (int.Local (line_place g))) (rise_above (negsuc 0) tests) (local_int sc g enough others (line_place g) (omega arith)) (arms_rise (negsuc 0) 1 (the_routine g).steps all its (λ k le1. refl)))
+        (one_inside (λ q. arms_fit tests q && inside q (are_stmts sc (leave_code g))) 204 r (omega (arith, more))
         (λ q six. both_true (arms_fit tests (Some q)) (inside (Some q) (are_stmts sc (leave_code g)))
-        (arms_formed short named 1 q (the_routine g).steps (omega (arith, six)) (omega (arith, short)) ok le arms_laid (λ le1. (refl, laid)))
+        (arms_formed named 1 q (the_routine g).steps all its (omega (arith, six)) (omega (arith, short)) ok arms_laid (λ le1. (refl, laid)))
         (one_inside (are_stmts sc (leave_code g)) 5 q (omega (arith, six)) (λ u five. leaves u (omega (arith, five))))))))
       where
-        all : List Arm
-        all = arms g 1 (the_routine g).steps
-
         tests : List ArmTest
-        tests = map (arm_test sc) (arms g 1 (the_routine g).steps)
+        tests = map (arm_test sc) all
 
         switch : CStmt
-        switch = stmt.Switch (int.Local (line_place g)) (arms g 1 (the_routine g).steps) (leave_code g)
+        switch = stmt.Switch (int.Local (line_place g)) all (leave_code g)
 
-    run_formed : (b : Bool) (room : ℕ) → 8 ≤ room → are_lines p (scope_at g) (the_routine g).steps ≡ true → base g + lines_width (the_routine g).steps ≤ sc.ints
-        → are_laid_lines g (first_known g) false 1 (the_routine g).steps ≡ true → are_laid_arms g 1 (the_routine g).steps ≡ true → are_stmts sc (run_code g b) (Some room) ≡ true
-    run_formed false room big ok le laid arms_laid =
-        lines_formed sc g enough others p functions leaves short named (first_known g) false room 1 (the_routine g).steps (omega (arith, short)) ok laid le (omega (arith, big))
-    run_formed true room big ok le laid arms_laid =
-        joined sc (go_to g (first_line (the_routine g))) (loop_code g ∷ []) room
+    run_formed : (b : Bool) (room : ℕ) (code : List CStmt) → IsRun (IsLine g ints bufs) g b code → 206 ≤ room → are_lines g.program (scope_at g) (the_routine g).steps ≡ true
+        → are_laid_lines g (first_known g) false 1 (the_routine g).steps ≡ true → are_laid_arms g 1 (the_routine g).steps ≡ true → are_stmts sc code (Some room) ≡ true
+    run_formed false room code its big ok laid arms_laid =
+        lines_formed sc g ints bufs enough all_ints all_bufs declares counted leaves short named (first_known g) false room 1 (the_routine g).steps code its (omega (arith, short)) ok laid (omega (arith, big))
+    run_formed true room code (all, is, its) big ok laid arms_laid =
+        ap (λ (ss : List CStmt). are_stmts sc ss (Some room)) is
+        ∙ joined sc (go_to g (first_line (the_routine g))) (turn_code g all ∷ []) room
         (go_formed sc g enough others (first_line (the_routine g)) room (let few = landing_le 1 (the_routine g).steps (first_line (the_routine g)) refl in omega (arith, few, short)))
-        (one sc (loop_code g) room (loop_formed room big ok le laid arms_laid))
+        (one sc (turn_code g all) room (loop_formed room all its big ok laid arms_laid))
 
 -- ---- One function
-
--- where there is no such function, it has no lines
-empty_run : (g : Site) → the_routine g ≡ no_core → run_code g (lines_loop (the_routine g) (the_routine g).steps) ≡ leave_code g
-empty_run g e =
-    ap (λ (f : CoreRoutine). run_code g (lines_loop f f.steps)) e
-    ∙ ap (λ (f : CoreRoutine). lines_code g (first_known g) false 1 f.steps) e
 
 abbrev suits_all : PlainCore → Option CoreRoutine → Bool
 suits_all p None = true
@@ -240,32 +200,31 @@ routine_sound p [] j ok = refl
 routine_sound p (f ∷ fs) zero ok = and_left (is_routine p f) (are_routines p fs) ok
 routine_sound p (f ∷ fs) (suc j) ok = routine_sound p fs j (and_right (is_routine p f) (are_routines p fs) ok)
 
--- what of a function's size its C function has
-narrow : (p : PlainCore) (f : CoreRoutine) → is_routine p f ≡ true → lines_width f.steps ≤ 2000
-narrow p f ok =
-    let rest = and_right (is_name f.header.title) (has_own_names f.header && (nat_le (length f.steps) 999 && are_lines p f.header.scope f.steps)) ok in
-    let lines = and_right (has_own_names f.header) (nat_le (length f.steps) 999 && are_lines p f.header.scope f.steps) rest in
-    lines_narrow p f.header.scope f.steps (and_right (nat_le (length f.steps) 999) (are_lines p f.header.scope f.steps) lines)
+-- where there is no such function, it has no lines
+empty_run : (Line : List ℕ → ℕ → List Effect → List CStmt → Type 0) (g : Site) (b : Bool) (code : List CStmt) → the_routine g ≡ no_core → lines_loop (the_routine g) (the_routine g).steps ≡ b → IsRun Line g b code → code ≡ leave_code g
+empty_run Line g true code e is run = let none : lines_loop (the_routine g) (the_routine g).steps ≡ false = ap (λ (f : CoreRoutine). lines_loop f f.steps) e in absurd (cc)
+empty_run Line g false code e is run = subst (λ (xs : List (List Effect)). AreLines Line g (first_known g) false 1 xs code) (ap (λ (f : CoreRoutine). f.steps) e) run
 
-width_of : (p : PlainCore) (o : Option CoreRoutine) → suits_all p o ≡ true → lines_width (unwrap_or o no_core).steps ≤ 2000
-width_of p None ok = omega arith
-width_of p (Some f) ok = narrow p f ok
+called_count : (y : Layout) (p : PlainCore) (js : List ℕ) (fs : List CFunction) → AreCalled y p js fs → length fs ≡ length js
+called_count y p [] fs is = ap (λ (zs : List CFunction). length zs) is
+called_count y p (j ∷ js) fs (f, rest, is, its, later) = ap (λ (zs : List CFunction). length zs) is ∙ ap suc (called_count y p js rest later)
 
-module _ (y : Layout) (p : PlainCore) (few : HasCounts y) (sound : are_routines p p.routines ≡ true) (first : Bool) (j : ℕ) (counts : is_counted y.called y.counted ≡ true) (called : first ≡ false → for_calls y.called ≡ 5) (laid : is_laid_site (site_at y p first j) ≡ true) where
+module _ (x : CProgram) (y : Layout) (p : PlainCore) (whole : IsProgramOf y p x) (sound : are_routines p p.routines ≡ true) (counts : is_counted y.called y.counted ≡ true) (first : Bool) (j : ℕ) (called : first ≡ false → for_calls y.called ≡ 5) (laid : is_laid_site (site_at y p first j) ≡ true) (f : CFunction) (is : IsFunction (site_at y p first j) f) where
   abbrev g : Site
   g = site_at y p first j
 
   abbrev sc : formed.Scope
-  sc = declared (program_code y p) (function_code (site_at y p first j))
+  sc = declared x f
 
-  enough : base g ≤ sc.ints
-  enough = omega arith
+  declares : Declares y (declared x f)
+  declares =
+      let ints = whole.ints in
+      let many = ap (λ (fs : List CFunction). length fs) whole.functions in
+      let long = called_count y p y.called whole.rest whole.called in
+      record { ints = omega (arith, ints); functions = omega (arith, many, long) }
 
-  others : global_ints g.layout ≤ sc.global_ints
-  others = omega arith
-
-  functions : suc (length g.layout.called) ≤ sc.functions
-  functions = let is = length_map (called_code y p) y.called in omega (arith, is)
+  enough : base (site_at y p first j) ≤ f.ints
+  enough = is.enough
 
   -- the parts of what the layout serves
   after_flags : (are_laid_lines g (first_known g) false 1 (the_routine g).steps && (are_laid_arms g 1 (the_routine g).steps && (are_among (first_known g) (the_frame g).sure && (are_among (the_frame g).sure (known_at_end g (first_known g) false 1 (the_routine g).steps) && (is_laid_name g (the_routine g).header.left && (is_laid_name g (the_routine g).header.right && is_laid_result g (the_routine g).header.result)))))) ≡ true
@@ -282,33 +241,40 @@ module _ (y : Layout) (p : PlainCore) (few : HasCounts y) (sound : are_routines 
 
   leaves : (room : ℕ) → 2 ≤ room → are_stmts sc (leave_code g) (Some room) ≡ true
   leaves room le =
-      leave_formed sc g enough others room le called counts
+      leave_formed sc g enough declares.ints room le called counts
       (and_right (is_laid_name g (the_routine g).header.right) (is_laid_result g (the_routine g).header.result) (and_right (is_laid_name g (the_routine g).header.left) _ names_laid))
+
+  short : length (the_routine (site_at y p first j)).steps ≤ 999
+  short = by (slice_get p.routines j) (routine_sound p p.routines j sound)
+    where
+      by : (o : Option CoreRoutine) → suits_all p o ≡ true → length (unwrap_or o no_core).steps ≤ 999
+      by None ok = omega arith
+      by (Some r) ok = le_of (length r.steps) 999 (and_left (nat_le (length r.steps) 999) _ (and_right (has_own_names r.header) _ (and_right (is_name r.header.title) _ ok)))
 
   enter_formed : are_stmts sc (enter_code g) (Some 256) ≡ true
   enter_formed =
-      enter_by_formed sc g enough others p functions leaves first 256 (omega arith) called counts (and_left (is_laid_name g (the_routine g).header.left) _ names_laid)
+      enter_by_formed sc g f.ints f.bufs enough (omega arith) (omega arith) declares counts leaves short first 256 (omega arith) called counts (and_left (is_laid_name g (the_routine g).header.left) _ names_laid)
       (and_left (is_laid_name g (the_routine g).header.right) _ (and_right (is_laid_name g (the_routine g).header.left) _ names_laid))
 
-  steps_formed : (o : Option CoreRoutine) → slice_get p.routines j ≡ o → suits_all p o ≡ true → are_stmts sc (run_code g (lines_loop (the_routine g) (the_routine g).steps)) (Some 256) ≡ true
-  steps_formed None e ok = ap (λ ss. are_stmts sc ss (Some 256)) (empty_run g (ap (λ o. unwrap_or o no_core) e)) ∙ leaves 256 (omega arith)
-  steps_formed (Some f) e ok =
-      let is : the_routine g ≡ f = ap (λ o. unwrap_or o no_core) e in
-      let good : is_routine p (the_routine g) ≡ true = subst (λ h. is_routine p h ≡ true) (sym is) ok in
+  steps_formed : (o : Option CoreRoutine) (code : List CStmt) → IsRun (IsLine g f.ints f.bufs) g (lines_loop (the_routine g) (the_routine g).steps) code → slice_get p.routines j ≡ o → suits_all p o ≡ true → are_stmts sc code (Some 256) ≡ true
+  steps_formed None code run e ok = ap (λ (ss : List CStmt). are_stmts sc ss (Some 256)) (empty_run (IsLine g f.ints f.bufs) g (lines_loop (the_routine g) (the_routine g).steps) code (ap (λ o. unwrap_or o no_core) e) refl run) ∙ leaves 256 (omega arith)
+  steps_formed (Some r) code run e ok =
+      let same : the_routine g ≡ r = ap (λ o. unwrap_or o no_core) e in
+      let good : is_routine p (the_routine g) ≡ true = subst (λ h. is_routine p h ≡ true) (sym same) ok in
       let named = and_left (is_name (the_routine g).header.title) _ good in
       let rest = and_right (has_own_names (the_routine g).header) _ (and_right (is_name (the_routine g).header.title) _ good) in
-      let short = le_of (length (the_routine g).steps) 999 (and_left (nat_le (length (the_routine g).steps) 999) _ rest) in
-      run_formed sc g enough others p functions leaves short named (lines_loop (the_routine g) (the_routine g).steps) 256 (omega arith)
-      (and_right (nat_le (length (the_routine g).steps) 999) (are_lines p (scope_at g) (the_routine g).steps) rest) (omega arith)
+      run_formed sc g f.ints f.bufs enough (omega arith) (omega arith) declares counts leaves short named (lines_loop (the_routine g) (the_routine g).steps) 256 code run (omega arith)
+      (and_right (nat_le (length (the_routine g).steps) 999) (are_lines p (scope_at g) (the_routine g).steps) rest)
       (and_left (are_laid_lines g (first_known g) false 1 (the_routine g).steps) _ after_flags) (and_left (are_laid_arms g 1 (the_routine g).steps) _ after_lines)
 
-  site_formed : formed.is_function sc (Some 256) (function_code g) ≡ true
-  site_formed =
-      let size = few.frames j in
-      let width = width_of p (slice_get p.routines j) (routine_sound p p.routines j sound) in
-      let count : is_count (base g + lines_width (the_routine g).steps) ≡ true = is_below (base g + lines_width (the_routine g).steps) (2 ^ 32) (omega (arith, size, width)) in
-      both_true (is_count (base g + lines_width (the_routine g).steps) && true) (are_stmts sc (body_code g) (Some 256)) (both_true (is_count (base g + lines_width (the_routine g).steps)) true count refl)
-      (joined sc (enter_code g) (run_code g (lines_loop (the_routine g) (the_routine g).steps)) 256 enter_formed (steps_formed (slice_get p.routines j) refl (routine_sound p p.routines j sound)))
+  site_formed : formed.is_function (declared x f) (Some 256) f ≡ true
+  site_formed = by is.body
+    where
+      by : IsBody (IsLine (site_at y p first j) f.ints f.bufs) (site_at y p first j) f.body → formed.is_function (declared x f) (Some 256) f ≡ true
+      by (run, code, its) =
+          both_true (is_count f.ints && is_count f.bufs) (are_stmts sc f.body (Some 256)) (both_true (is_count f.ints) (is_count f.bufs) (is_below f.ints (2 ^ 32) is.ints) (is_below f.bufs (2 ^ 32) is.bufs))
+          (ap (λ (ss : List CStmt). are_stmts sc ss (Some 256)) code
+          ∙ joined sc (enter_code g) run 256 enter_formed (steps_formed (slice_get p.routines j) run its refl (routine_sound p p.routines j sound)))
 
 -- ---- Programs
 
@@ -316,34 +282,45 @@ for_calls_some : (xs : List ℕ) → 0 < length xs → for_calls xs ≡ 5
 for_calls_some [] h = absurd (omega (arith, h))
 for_calls_some (x ∷ xs) h = refl
 
-called_formed : (y : Layout) (p : PlainCore) → HasCounts y → are_routines p p.routines ≡ true → is_counted y.called y.counted ≡ true
-    → (js : List ℕ) → (0 < length js → for_calls y.called ≡ 5) → are_laid_sites y p js ≡ true → formed.are_functions (declared (program_code y p)) (Some 256) (map (called_code y p) js) ≡ true
-called_formed y p few sound counts [] is laid = refl
-called_formed y p few sound counts (j ∷ js) is laid =
-    both_true (formed.is_function (declared (program_code y p) (called_code y p j)) (Some 256) (called_code y p j)) (formed.are_functions (declared (program_code y p)) (Some 256) (map (called_code y p) js))
-    (site_formed y p few sound false j counts (λ e. is (omega arith)) (and_left (is_laid_site (site_at y p false j)) (are_laid_sites y p js) laid))
-    (called_formed y p few sound counts js (λ lt. is (omega arith)) (and_right (is_laid_site (site_at y p false j)) (are_laid_sites y p js) laid))
+called_formed : (x : CProgram) (y : Layout) (p : PlainCore) → IsProgramOf y p x → are_routines p p.routines ≡ true → is_counted y.called y.counted ≡ true
+    → (js : List ℕ) (fs : List CFunction) → AreCalled y p js fs → (0 < length js → for_calls y.called ≡ 5) → are_laid_sites y p js ≡ true → formed.are_functions (declared x) (Some 256) fs ≡ true
+called_formed x y p whole sound counts [] fs its is laid = ap (λ (zs : List CFunction). formed.are_functions (declared x) (Some 256) zs) its
+called_formed x y p whole sound counts (j ∷ js) fs (f, rest, same, its, later) is laid =
+    ap (λ (zs : List CFunction). formed.are_functions (declared x) (Some 256) zs) same
+    ∙ both_true (formed.is_function (declared x f) (Some 256) f) (formed.are_functions (declared x) (Some 256) rest)
+    (site_formed x y p whole sound counts false j (λ e. is (omega arith)) (and_left (is_laid_site (site_at y p false j)) (are_laid_sites y p js) laid) f its)
+    (called_formed x y p whole sound counts js rest later (λ lt. is (omega arith)) (and_right (is_laid_site (site_at y p false j)) (are_laid_sites y p js) laid))
 
 -- the C program is well formed
-pub program_formed : (y : Layout) (p : PlainCore) → is_sound p ≡ true → IsLaid y p → HasCounts y → IsWellFormed (program_code y p)
+pub program_formed : (x : CProgram) (y : Layout) (p : PlainCore) → IsProgramOf y p x → is_sound p ≡ true → IsLaid y p → HasCounts y → IsWellFormed x
 unfolding is_formed
-program_formed y p sound laid few =
+program_formed x y p whole sound laid few =
     let routines = and_right (begins (option_and_then (slice_get p.routines) p.start)) (are_routines p p.routines) sound in
     let start = unwrap_or p.start 0 in
-    let cs : List CFunction = function_code (site_at y p true start) ∷ map (called_code y p) y.called in
-    let long = length_map (called_code y p) y.called in
     let many = few.called in
-    let a : is_count (global_ints y) ≡ true = is_below (global_ints y) (2 ^ 32) few.globals in
-    let n : is_count (length cs) ≡ true = is_below (length cs) (2 ^ 32) (omega (arith, long, many)) in
-    let d : nat_lt 0 (length cs) ≡ true = is_below 0 (length cs) (omega arith) in
-    let fs =
-    both_true (formed.is_function (declared (program_code y p) (function_code (site_at y p true start))) (Some 256) (function_code (site_at y p true start))) (formed.are_functions (declared (program_code y p)) (Some 256) (map (called_code y p) y.called))
-    (site_formed y p few routines true start laid.counts (λ e. absurd (cc)) laid.begins)
-    (called_formed y p few routines laid.counts y.called (for_calls_some y.called) laid.calls) in
-    let i = is_count (global_ints y) in
-    let c = is_count (length cs) in
-    let m = nat_lt 0 (length cs) in
-    both_true (((((i && true) && true) && c) && true) && m) (formed.are_functions (declared (program_code y p)) (Some 256) cs)
-    (both_true ((((i && true) && true) && c) && true) m
-    (both_true (((i && true) && true) && c) true
-    (both_true ((i && true) && true) c (both_true (i && true) true (both_true i true a refl) refl) n) refl) d) fs
+    let globals = few.globals in
+    let long = called_count y p y.called whole.rest whole.called in
+    let count : length x.functions ≡ suc (length whole.rest) = ap (λ (fs : List CFunction). length fs) whole.functions in
+    let ints = whole.ints in
+    let bufs = whole.bufs in
+    let i = is_count x.ints in
+    let b = is_count x.bufs in
+    let d = is_count (length x.tables) in
+    let e = formed.are_tables x.tables in
+    let c = is_count (length x.functions) in
+    let m = nat_lt 0 (length x.functions) in
+    let fs : formed.are_functions (declared x) (Some 256) x.functions ≡ true =
+    ap (λ (zs : List CFunction). formed.are_functions (declared x) (Some 256) zs) whole.functions
+    ∙ both_true (formed.is_function (declared x whole.first) (Some 256) whole.first) (formed.are_functions (declared x) (Some 256) whole.rest)
+    (site_formed x y p whole routines laid.counts true start (λ e. absurd (cc)) laid.begins whole.first whole.begins)
+    (called_formed x y p whole routines laid.counts y.called whole.rest whole.called (for_calls_some y.called) laid.calls) in
+    both_true (((((i && b) && d) && c) && e) && m) (formed.are_functions (declared x) (Some 256) x.functions)
+    (both_true ((((i && b) && d) && c) && e) m
+    (both_true (((i && b) && d) && c) e
+    (both_true ((i && b) && d) c
+    (both_true (i && b) d
+    (both_true i b (is_below x.ints (2 ^ 32) (omega (arith, ints, globals))) (is_below x.bufs (2 ^ 32) (omega (arith, bufs))))
+    (ap (λ (ts : List (List ℤ)). is_count (length ts)) whole.tables))
+    (is_below (length x.functions) (2 ^ 32) (omega (arith, count, long, many))))
+    (ap (λ (ts : List (List ℤ)). formed.are_tables ts) whole.tables))
+    (is_below 0 (length x.functions) (omega (arith, count)))) fs

@@ -1,6 +1,6 @@
 -- The code of steps and lines is well formed.
-use Rattle.std.proofs.Common.{◌≡◌, ℕ, zero, suc, ◌+◌, ◌<◌, ◌≤◌, true, false, Bool, cond, List, [], ◌∷◌, ◌++◌, length, drop, refl, ◌∙◌, sym, subst, arith, ℤ, pos}
-use Rattle.std.specs.Prelude.{Option, Some, None, max, ◌^◌, nat_lt, nat_eq, nat_le, ◌&&◌, ◌||◌}
+use Rattle.std.proofs.Common.{◌≡◌, ℕ, zero, suc, ◌+◌, ◌<◌, ◌≤◌, true, false, Bool, cond, List, [], ◌∷◌, ◌++◌, length, drop, refl, ap, ◌∙◌, sym, subst, arith, ℤ, pos}
+use Rattle.std.specs.Prelude.{Option, Some, None, max, ◌^◌, nat_lt, nat_eq, ◌&&◌, ◌||◌}
 use Rattle.std.proofs.Math.Nat.{le-max_left, le-max_right}
 use Rattle.std.proofs.lemmas.Bool.{eqb-true}
 use Rattle.aplc_cprof.specs.declared.syntax.Int.{Int}
@@ -17,11 +17,12 @@ use Rattle.aplc_cprof.proofs.Emitted.{both_true, and_left, and_right, is_below, 
 use Rattle.aplc_names.specs.States.{is_among}
 use Rattle.aplc_names.specs.Eager.{function_of, line_named}
 use Rattle.aplc_core.specs.PlainSteps.{Term, Effect, Keep, Store, StoreAt, Call, ReadText, ReadNums, Show, Branch}
-use Rattle.aplc_core.specs.CoreRuns.{Told, told, CoreRoutine, PlainCore}
+use Rattle.aplc_core.specs.CoreRuns.{Told, CoreRoutine, PlainCore}
 use Rattle.aplc_gen.specs.Layouts.{Site, the_routine, the_frame, frame_of, routine_at, function_place, depth, right_passed, left_passed, result, result_flag, for_calls, global_ints, local_value, local_flag, value_place, flag_place, is_unsure, line_place, slot_place, base}
 use Rattle.aplc_gen.specs.Laid.{has_place, is_laid_term, is_laid_slot, is_laid_step, are_laid_steps, are_laid_lines, is_laid_result, is_counted}
-use Rattle.aplc_gen.specs.Sound.{Ready, ready_after, is_variable, is_term, is_effect, are_effects, nothing_ready, effects_cost, is_line, are_lines}
-use Rattle.aplc_gen.specs.Emitted.{local, scope_at, operand, known_after, tree_code, width, result_code, count_down, leave_by, leave_code, Lead, out, to, computed, landing, lead_at, lead_of_line, known_number, lead_by, lead, is_entry, go_to, flag_code, not_known, pass_code, is_giving, result_guard, got_code, call_code, display_code, branch_code, step_code, known_behind, is_branch, steps_code, known_through, branches, line_code, lines_code, step_width, steps_width, lines_width}
+use Rattle.aplc_gen.specs.Sound.{Ready, ready_after, is_variable, is_term, is_effect, are_effects, is_line, are_lines}
+use Rattle.aplc_gen.specs.Emitted.{local, scope_at, operand, known_after, tree_code, width, result_code, count_down, leave_by, leave_code, Lead, out, to, computed, landing, lead_at, lead_of_line, known_number, lead_by, lead, is_entry, go_to, flag_code, not_known, pass_code, is_giving, result_guard, got_code, call_code, display_code, jump_code, step_code, work_code, known_behind, is_branch, known_through, branches, step_width, steps_width}
+use Rattle.aplc_gen.specs.Codes.{ending, Declares, line_depth, IsLine, exit_code, end_code, whole_line, Either, AreLines}
 use Rattle.aplc_gen.proofs.FormedTrees.{place_below, Stored, number_formed, beside_number, guard_formed, one, two, joined, local_int, local_value_int, local_flag_int, value_int, flag_int, slot_int, operand_formed, tree_formed}
 
 -- ---- Where branches lead
@@ -179,7 +180,7 @@ module _ (sc : formed.Scope) (g : Site) (enough : base g ≤ sc.ints) (others : 
       (is_PutNum sc e (expr.Lit (pos 0)) (Some room) ∙ both_true (is_expr sc e (Some room)) (is_expr sc (expr.Lit (pos 0)) (Some room)) h (number_formed sc 0 room (omega arith)))
       (is_PutChar sc (expr.Lit (pos 10)) (Some room) ∙ number_formed sc 10 room (omega arith))
 
-  module _ (p : PlainCore) (functions : suc (length g.layout.called) ≤ sc.functions) (leaves : (room : ℕ) → 2 ≤ room → are_stmts sc (leave_code g) (Some room) ≡ true) (short : length (the_routine g).steps ≤ 999) where
+  module _ (functions : suc (length g.layout.called) ≤ sc.functions) where
     call_formed : (j : ℕ) (a b r : Option ℕ) (room : ℕ) → 1 ≤ room → is_among j g.layout.called ≡ true → is_laid_slot g a ≡ true → is_laid_slot g b ≡ true → is_laid_slot g r ≡ true → are_stmts sc (call_code g j a b r) (Some room) ≡ true
     call_formed j a b r room le there ha hb hr =
         let is = calls_there j g.layout.called there in
@@ -192,24 +193,25 @@ module _ (sc : formed.Scope) (g : Site) (enough : base g ≤ sc.ints) (others : 
         (one_stmt sc (Some room) call got (is_Call sc (function_place g.layout j) (Some room) ∙ is_below (function_place g.layout j) sc.functions (omega (arith, lt, functions)))
         (got_formed sure r room le is hr)))
 
-    branch_formed : (b : Lead) (known : List ℕ) (room : ℕ) (l : Told) (r : Ready) (t : Term) → ((k : ℕ) → b ≡ to k → k ≤ 999) → Stored g r → is_term (scope_at g) l r t ≡ true → is_laid_term g known t ≡ true → base g + width t ≤ sc.ints → 2 ≤ room → are_stmts sc (branch_code g known t b) (Some room) ≡ true
-    branch_formed out known room l r t bound st ok laid le big = leaves room big
-    branch_formed (to k) known room l r t bound st ok laid le big = let few = bound k refl in go_formed k room (omega (arith, few))
-    branch_formed computed known room l r t bound st ok laid le big =
+    -- the number of the line where a computed branch leads
+    jump_formed : (b : Lead) (known : List ℕ) (room : ℕ) (l : Told) (r : Ready) (t : Term) → Stored g r → is_term (scope_at g) l r t ≡ true → is_laid_term g known t ≡ true → base g + width t ≤ sc.ints → 2 ≤ room → are_stmts sc (jump_code g known t b) (Some room) ≡ true
+    jump_formed out known room l r t st ok laid le big = refl
+    jump_formed (to k) known room l r t st ok laid le big = refl
+    jump_formed computed known room l r t st ok laid le big =
         let e = operand g (base g) t in
         joined sc (tree_code g known (base g) t) (stmt.Set (int.Local (line_place g)) e ∷ []) room (tree_formed sc g enough others known (base g) room l r t st ok laid le big)
         (one sc (stmt.Set (int.Local (line_place g)) e) room
         (set_formed sc (Some room) (int.Local (line_place g)) e (local_int sc g enough others (line_place g) (omega arith)) (operand_formed sc g enough others known (base g) room l r t st ok laid le (omega (arith, big)))))
 
-    pub step_formed : (known : List ℕ) (room : ℕ) (l : Told) (r : Ready) (x : Effect) → Stored g r → is_effect p (scope_at g) l r x ≡ true → is_laid_step g known x ≡ true → base g + step_width x ≤ sc.ints → 2 ≤ room → are_stmts sc (step_code g known x) (Some room) ≡ true
-    step_formed known room l r (Keep k t) st ok laid le big =
+    pub step_formed : (known : List ℕ) (room : ℕ) (l : Told) (r : Ready) (x : Effect) → is_branch x ≡ false → Stored g r → is_effect g.program (scope_at g) l r x ≡ true → is_laid_step g known x ≡ true → base g + step_width x ≤ sc.ints → 2 ≤ room → are_stmts sc (step_code g known x) (Some room) ≡ true
+    step_formed known room l r (Keep k t) plain st ok laid le big =
         let slot = and_left (nat_lt k (the_frame g).slots) (is_laid_term g known t) laid in
         let fits = and_right (nat_lt k (the_frame g).slots) (is_laid_term g known t) laid in
         let e = operand g (base g) t in
         joined sc (tree_code g known (base g) t) (stmt.Set (int.Local (slot_place g k)) e ∷ []) room (tree_formed sc g enough others known (base g) room l r t st ok fits le big)
         (one sc (stmt.Set (int.Local (slot_place g k)) e) room
         (set_formed sc (Some room) (int.Local (slot_place g k)) e (slot_int sc g enough others k slot) (operand_formed sc g enough others known (base g) room l r t st ok fits le (omega (arith, big)))))
-    step_formed known room l r (Store i n t) st ok laid le big =
+    step_formed known room l r (Store i n t) plain st ok laid le big =
         let variable = and_left (is_variable (scope_at g n)) (is_term (scope_at g) l r t) ok in
         let good = and_right (is_variable (scope_at g n)) (is_term (scope_at g) l r t) ok in
         let there = and_left (has_place g (scope_at g n) n) (is_laid_term g known t) laid in
@@ -223,75 +225,101 @@ module _ (sc : formed.Scope) (g : Site) (enough : base g ≤ sc.ints) (others : 
         (one_stmt sc (Some room) set flags
         (set_formed sc (Some room) (value_place g x n) e (value_int sc g enough others x n variable there) (operand_formed sc g enough others known (base g) room l r t st good fits le (omega (arith, big))))
         (flag_formed (flag_place g x n) flagged room (λ h. flag_int sc g enough others x n variable (and_left (is_unsure g x n) (not_known (known_after known t) n) h))))
-    step_formed known room l r (StoreAt i n xs t) st ok laid le big = absurd (cc)
-    step_formed known room l r (Call i n a b s) st ok laid le big =
+    step_formed known room l r (StoreAt i n xs t) plain st ok laid le big = absurd (cc)
+    step_formed known room l r (Call i n a b s) plain st ok laid le big =
         let j = function_of (scope_at g n) in
         let there = and_left (is_among j g.layout.called) (is_laid_slot g a && (is_laid_slot g b && is_laid_slot g s)) laid in
         let slots = and_right (is_among j g.layout.called) (is_laid_slot g a && (is_laid_slot g b && is_laid_slot g s)) laid in
         let more = and_right (is_laid_slot g a) (is_laid_slot g b && is_laid_slot g s) slots in
         call_formed j a b s room (omega (arith, big)) there (and_left (is_laid_slot g a) (is_laid_slot g b && is_laid_slot g s) slots) (and_left (is_laid_slot g b) (is_laid_slot g s) more) (and_right (is_laid_slot g b) (is_laid_slot g s) more)
-    step_formed known room l r (ReadText i k) st ok laid le big = absurd (cc)
-    step_formed known room l r (ReadNums i k) st ok laid le big = absurd (cc)
-    step_formed known room l r (Show None t) st ok laid le big =
+    step_formed known room l r (ReadText i k) plain st ok laid le big = absurd (cc)
+    step_formed known room l r (ReadNums i k) plain st ok laid le big = absurd (cc)
+    step_formed known room l r (Show None t) plain st ok laid le big =
         joined sc (tree_code g known (base g) t) (display_code (operand g (base g) t)) room (tree_formed sc g enough others known (base g) room l r t st ok laid le big)
         (display_formed (operand g (base g) t) room (operand_formed sc g enough others known (base g) room l r t st ok laid le (omega (arith, big))))
-    step_formed known room l r (Show (Some i) t) st ok laid le big = absurd (cc)
-    step_formed known room l r (Branch t) st ok laid le big =
-        branch_formed (lead (the_routine g) t) known room l r t (λ k e. let few = lead_bound (the_routine g) t k e in omega (arith, few, short)) st ok laid le big
+    step_formed known room l r (Show (Some i) t) plain st ok laid le big = absurd (cc)
+    step_formed known room l r (Branch t) plain st ok laid le big = absurd (cc)
 
-    skipped : (b : Bool) (a : List CStmt) (room : ℕ) → are_stmts sc a (Some room) ≡ true → are_stmts sc (cond b [] a) (Some room) ≡ true
-    skipped true a room h = refl
-    skipped false a room h = h
-
-    pub steps_formed : (known : List ℕ) (room : ℕ) (l : Told) (r : Ready) (xs : List Effect) → Stored g r → are_effects p (scope_at g) l r xs ≡ true → are_laid_steps g known xs ≡ true → base g + steps_width xs ≤ sc.ints → 2 ≤ room → are_stmts sc (steps_code g known xs) (Some room) ≡ true
-    steps_formed known room l r [] st ok laid le big = refl
-    steps_formed known room l r (x ∷ xs) st ok laid le big =
+    -- the steps of a line
+    plain_formed : (known : List ℕ) (room : ℕ) (l : Told) (r : Ready) (x : Effect) (xs : List Effect) → is_branch x ≡ false → Stored g r → are_effects g.program (scope_at g) l r (x ∷ xs) ≡ true → are_laid_steps g known (x ∷ xs) ≡ true → base g + steps_width (x ∷ xs) ≤ sc.ints → 2 ≤ room
+        → (Stored g (ready_after r x) → are_effects g.program (scope_at g) l (ready_after r x) xs ≡ true → are_laid_steps g (known_behind known x) xs ≡ true → base g + steps_width xs ≤ sc.ints → are_stmts sc (work_code g (known_behind known x) xs) (Some room) ≡ true)
+        → are_stmts sc (step_code g known x ++ work_code g (known_behind known x) xs) (Some room) ≡ true
+    plain_formed known room l r x xs plain st ok laid le big next =
         let here : step_width x ≤ max (step_width x) (steps_width xs) = le-max_left (step_width x) (steps_width xs) in
         let later : steps_width xs ≤ max (step_width x) (steps_width xs) = le-max_right (step_width x) (steps_width xs) in
-        let good = and_left (is_effect p (scope_at g) l r x) (are_effects p (scope_at g) l (ready_after r x) xs) ok in
-        let goods = and_right (is_effect p (scope_at g) l r x) (are_effects p (scope_at g) l (ready_after r x) xs) ok in
+        let good = and_left (is_effect g.program (scope_at g) l r x) (are_effects g.program (scope_at g) l (ready_after r x) xs) ok in
+        let goods = and_right (is_effect g.program (scope_at g) l r x) (are_effects g.program (scope_at g) l (ready_after r x) xs) ok in
         let fits = and_left (is_laid_step g known x) (are_laid_steps g (known_behind known x) xs) laid in
         let all_fit = and_right (is_laid_step g known x) (are_laid_steps g (known_behind known x) xs) laid in
-        let rest = steps_code g (known_behind known x) xs in
-        joined sc (step_code g known x) (cond (is_branch x) [] rest) room (step_formed known room l r x st good fits (omega (arith, le, here)) big)
-        (skipped (is_branch x) rest room (steps_formed (known_behind known x) room l (ready_after r x) xs (stored_after g p l r x st good) goods all_fit (omega (arith, le, later)) big))
+        joined sc (step_code g known x) (work_code g (known_behind known x) xs) room (step_formed known room l r x plain st good fits (omega (arith, le, here)) big)
+        (next (stored_after g g.program l r x st good) goods all_fit (omega (arith, le, later)))
 
-    -- ---- Lines
+    pub work_formed : (known : List ℕ) (room : ℕ) (l : Told) (r : Ready) (xs : List Effect) → Stored g r → are_effects g.program (scope_at g) l r xs ≡ true → are_laid_steps g known xs ≡ true → base g + steps_width xs ≤ sc.ints → 2 ≤ room → are_stmts sc (work_code g known xs) (Some room) ≡ true
+    work_formed known room l r [] st ok laid le big = refl
+    work_formed known room l r (Branch t ∷ xs) st ok laid le big =
+        let here : width t ≤ max (width t) (steps_width xs) = le-max_left (width t) (steps_width xs) in
+        jump_formed (lead (the_routine g) t) known room l r t st
+        (and_left (is_effect g.program (scope_at g) l r (Branch t)) (are_effects g.program (scope_at g) l (ready_after r (Branch t)) xs) ok) (and_left (is_laid_step g known (Branch t)) (are_laid_steps g (known_behind known (Branch t)) xs) laid) (omega (arith, le, here)) big
+    work_formed known room l r (Keep k t ∷ xs) st ok laid le big = plain_formed known room l r (Keep k t) xs refl st ok laid le big (λ st' ok' laid' le'. work_formed (known_behind known (Keep k t)) room l (ready_after r (Keep k t)) xs st' ok' laid' le' big)
+    work_formed known room l r (Store i n t ∷ xs) st ok laid le big = plain_formed known room l r (Store i n t) xs refl st ok laid le big (λ st' ok' laid' le'. work_formed (known_behind known (Store i n t)) room l (ready_after r (Store i n t)) xs st' ok' laid' le' big)
+    work_formed known room l r (StoreAt i n ts t ∷ xs) st ok laid le big = plain_formed known room l r (StoreAt i n ts t) xs refl st ok laid le big (λ st' ok' laid' le'. work_formed (known_behind known (StoreAt i n ts t)) room l (ready_after r (StoreAt i n ts t)) xs st' ok' laid' le' big)
+    work_formed known room l r (Call i n a b s ∷ xs) st ok laid le big = plain_formed known room l r (Call i n a b s) xs refl st ok laid le big (λ st' ok' laid' le'. work_formed (known_behind known (Call i n a b s)) room l (ready_after r (Call i n a b s)) xs st' ok' laid' le' big)
+    work_formed known room l r (ReadText i k ∷ xs) st ok laid le big = plain_formed known room l r (ReadText i k) xs refl st ok laid le big (λ st' ok' laid' le'. work_formed (known_behind known (ReadText i k)) room l (ready_after r (ReadText i k)) xs st' ok' laid' le' big)
+    work_formed known room l r (ReadNums i k ∷ xs) st ok laid le big = plain_formed known room l r (ReadNums i k) xs refl st ok laid le big (λ st' ok' laid' le'. work_formed (known_behind known (ReadNums i k)) room l (ready_after r (ReadNums i k)) xs st' ok' laid' le' big)
+    work_formed known room l r (Show o t ∷ xs) st ok laid le big = plain_formed known room l r (Show o t) xs refl st ok laid le big (λ st' ok' laid' le'. work_formed (known_behind known (Show o t)) room l (ready_after r (Show o t)) xs st' ok' laid' le' big)
 
-    module _ (named : is_name (the_routine g).header.title ≡ true) where
-      pub line_formed : (known : List ℕ) (room l : ℕ) (xs : List Effect) → l < 5000 → is_line p (scope_at g) xs ≡ true → are_laid_steps g known xs ≡ true → base g + steps_width xs ≤ sc.ints → 2 ≤ room → are_stmts sc (line_code g known l xs) (Some room) ≡ true
-      line_formed known room l xs lt ok laid le big =
-          one_stmt sc (Some room) (stmt.At (the_routine g).header.title (pos l)) (steps_code g known xs)
-          (is_At sc (the_routine g).header.title (pos l) (Some room) ∙ both_true (is_name (the_routine g).header.title) (is_plain (pos l)) named (is_below l (2 ^ 63) (omega (arith, lt))))
-          (steps_formed known room (told xs) nothing_ready xs (λ n h. absurd (cc)) (and_left (are_effects p (scope_at g) (told xs) nothing_ready xs) (nat_le (effects_cost xs) 2000) ok) laid le big)
+-- ---- Lines
 
-      pub lines_formed : (known : List ℕ) (through : Bool) (room l : ℕ) (xs : List (List Effect)) → l + length xs < 5000 → are_lines p (scope_at g) xs ≡ true → are_laid_lines g known through l xs ≡ true → base g + lines_width xs ≤ sc.ints → 2 ≤ room → are_stmts sc (lines_code g known through l xs) (Some room) ≡ true
-      lines_formed known through room l [] lt ok laid le big = leaves room big
-      lines_formed known through room l ([] ∷ xs) lt ok laid le big =
-          lines_formed known through room (l + 1) xs (omega (arith, lt)) (and_right (is_line p (scope_at g) []) (are_lines p (scope_at g) xs) ok) laid (let later : lines_width xs ≤ max 0 (lines_width xs) = le-max_right 0 (lines_width xs) in omega (arith, le, later)) big
-      lines_formed known through room l ((x ∷ more) ∷ xs) lt ok laid le big =
-          let w = steps_width (x ∷ more) in
-          let here : w ≤ max w (lines_width xs) = le-max_left w (lines_width xs) in
-          let later : lines_width xs ≤ max w (lines_width xs) = le-max_right w (lines_width xs) in
-          either (through && is_entry (the_routine g) l) laid
-          (λ fits. line_formed known room l (x ∷ more) (omega (arith, lt)) (and_left (is_line p (scope_at g) (x ∷ more)) (are_lines p (scope_at g) xs) ok) fits (omega (arith, le, here)) big)
-          (λ fits. lines_formed (known_through known (x ∷ more)) true room (l + 1) xs (omega (arith, lt)) (and_right (is_line p (scope_at g) (x ∷ more)) (are_lines p (scope_at g) xs) ok) fits (omega (arith, le, later)) big)
-        where
-          rest : List CStmt
-          rest = lines_code g (known_through known (x ∷ more)) true (l + 1) xs
+-- in the function of a site, with all its variables
+module _ (sc : formed.Scope) (g : Site) (ints bufs : ℕ) (enough : base g ≤ sc.ints) (all_ints : ints ≤ sc.ints) (all_bufs : bufs ≤ sc.bufs) (declares : Declares g.layout sc) (counts : is_counted g.layout.called g.layout.counted ≡ true) (leaves : (room : ℕ) → 2 ≤ room → are_stmts sc (leave_code g) (Some room) ≡ true) (short : length (the_routine g).steps ≤ 999) where
+  others : global_ints g.layout ≤ sc.global_ints
+  others = declares.ints
 
-          are_laid : Bool
-          are_laid = are_laid_lines g (known_through known (x ∷ more)) true (l + 1) xs
+  exit_formed : (b : Lead) (room : ℕ) → ((k : ℕ) → b ≡ to k → k ≤ 999) → 2 ≤ room → are_stmts sc (exit_code g b) (Some room) ≡ true
+  exit_formed out room bound big = leaves room big
+  exit_formed (to k) room bound big = let few = bound k refl in go_formed sc g enough others k room (omega (arith, few))
+  exit_formed computed room bound big = refl
 
-          on : (b : Bool) → cond b true are_laid ≡ true → (are_laid ≡ true → are_stmts sc rest (Some room) ≡ true) → are_stmts sc (cond b [] rest) (Some room) ≡ true
-          on true h k = refl
-          on false h k = k h
+  end_formed : (o : Option Term) (room : ℕ) → 2 ≤ room → are_stmts sc (end_code g o) (Some room) ≡ true
+  end_formed None room big = refl
+  end_formed (Some t) room big = exit_formed (lead (the_routine g) t) room (λ k e. let few = lead_bound (the_routine g) t k e in omega (arith, few, short)) big
 
-          either : (b : Bool) → cond b true (are_laid_steps g known (x ∷ more) && cond (branches (x ∷ more)) true are_laid) ≡ true
-              → (are_laid_steps g known (x ∷ more) ≡ true → are_stmts sc (line_code g known l (x ∷ more)) (Some room) ≡ true)
-              → (are_laid ≡ true → are_stmts sc rest (Some room) ≡ true)
-              → are_stmts sc (cond b (go_to g l) (line_code g known l (x ∷ more) ++ cond (branches (x ∷ more)) [] rest)) (Some room) ≡ true
-          either true h line next = go_formed l room (omega (arith, lt))
-          either false h line next =
-              joined sc (line_code g known l (x ∷ more)) (cond (branches (x ∷ more)) [] rest) room (line (and_left (are_laid_steps g known (x ∷ more)) (cond (branches (x ∷ more)) true are_laid) h))
-              (on (branches (x ∷ more)) (and_right (are_laid_steps g known (x ∷ more)) (cond (branches (x ∷ more)) true are_laid) h) next)
+  module _ (named : is_name (the_routine g).header.title ≡ true) where
+    line_formed : (known : List ℕ) (room l : ℕ) (xs : List Effect) (code : List CStmt) → IsLine g ints bufs known l xs code → l < 5000 → is_line g.program (scope_at g) xs ≡ true → are_laid_steps g known xs ≡ true → line_depth ≤ room → are_stmts sc (whole_line g l xs code) (Some room) ≡ true
+    line_formed known room l xs code is lt ok laid big =
+        one_stmt sc (Some room) (stmt.At (the_routine g).header.title (pos l)) (code ++ end_code g (ending xs))
+        (is_At sc (the_routine g).header.title (pos l) (Some room) ∙ both_true (is_name (the_routine g).header.title) (is_plain (pos l)) named (is_below l (2 ^ 63) (omega (arith, lt))))
+        (joined sc code (end_code g (ending xs)) room (is.placed (record { line = ok; laid = laid; counts = counts }) sc room declares all_ints all_bufs big) (end_formed (ending xs) room (omega (arith, big))))
+
+    pub lines_formed : (known : List ℕ) (through : Bool) (room l : ℕ) (xs : List (List Effect)) (code : List CStmt) → AreLines (IsLine g ints bufs) g known through l xs code → l + length xs < 5000 → are_lines g.program (scope_at g) xs ≡ true → are_laid_lines g known through l xs ≡ true → line_depth ≤ room → are_stmts sc code (Some room) ≡ true
+    lines_formed known through room l [] code is lt ok laid big = ap (λ (ss : List CStmt). are_stmts sc ss (Some room)) is ∙ leaves room (omega (arith, big))
+    lines_formed known through room l ([] ∷ xs) code is lt ok laid big =
+        lines_formed known through room (l + 1) xs code is (omega (arith, lt)) (and_right (is_line g.program (scope_at g) []) (are_lines g.program (scope_at g) xs) ok) laid big
+    lines_formed known through room l ((x ∷ more) ∷ xs) code is lt ok laid big =
+        either (through && is_entry (the_routine g) l) is laid
+        (λ mine does fits. line_formed known room l (x ∷ more) mine does (omega (arith, lt)) (and_left (is_line g.program (scope_at g) (x ∷ more)) (are_lines g.program (scope_at g) xs) ok) fits big)
+        (λ rest later fits. lines_formed (known_through known (x ∷ more)) true room (l + 1) xs rest later (omega (arith, lt)) (and_right (is_line g.program (scope_at g) (x ∷ more)) (are_lines g.program (scope_at g) xs) ok) fits big)
+      where
+        Rest : List CStmt → Type 0
+        Rest rest = AreLines (IsLine g ints bufs) g (known_through known (x ∷ more)) true (l + 1) xs rest
+
+        Mine : List CStmt → Type 0
+        Mine mine = IsLine g ints bufs known l (x ∷ more) mine
+
+        are_laid : Bool
+        are_laid = are_laid_lines g (known_through known (x ∷ more)) true (l + 1) xs
+
+        on : (b : Bool) (rest : List CStmt) → Either b (rest ≡ []) (Rest rest) → cond b true are_laid ≡ true → (Rest rest → are_laid ≡ true → are_stmts sc rest (Some room) ≡ true) → are_stmts sc rest (Some room) ≡ true
+        on true rest is h k = ap (λ (ss : List CStmt). are_stmts sc ss (Some room)) is
+        on false rest is h k = k is h
+
+        either : (b : Bool) → Either b (code ≡ go_to g l) ((mine : List CStmt) × (rest : List CStmt) × (code ≡ whole_line g l (x ∷ more) mine ++ rest) × IsLine g ints bufs known l (x ∷ more) mine × Either (branches (x ∷ more)) (rest ≡ []) (AreLines (IsLine g ints bufs) g (known_through known (x ∷ more)) true (l + 1) xs rest))
+            → cond b true (are_laid_steps g known (x ∷ more) && cond (branches (x ∷ more)) true are_laid) ≡ true
+            → ((mine : List CStmt) → Mine mine → are_laid_steps g known (x ∷ more) ≡ true → are_stmts sc (whole_line g l (x ∷ more) mine) (Some room) ≡ true)
+            → ((rest : List CStmt) → Rest rest → are_laid ≡ true → are_stmts sc rest (Some room) ≡ true)
+            → are_stmts sc code (Some room) ≡ true
+        either true is h line next = ap (λ (ss : List CStmt). are_stmts sc ss (Some room)) is ∙ go_formed sc g enough others l room (omega (arith, lt))
+        either false (mine, rest, is, does, later) h line next =
+            ap (λ (ss : List CStmt). are_stmts sc ss (Some room)) is
+            ∙ joined sc (whole_line g l (x ∷ more) mine) rest room (line mine does (and_left (are_laid_steps g known (x ∷ more)) (cond (branches (x ∷ more)) true are_laid) h))
+            (on (branches (x ∷ more)) rest later (and_right (are_laid_steps g known (x ∷ more)) (cond (branches (x ∷ more)) true are_laid) h) (next rest))

@@ -27,7 +27,7 @@ use Rattle.aplc_gen.specs.Layouts.{Layout, Site, the_frame, the_routine, global_
 use Rattle.aplc_gen.specs.Layouts as layouts
 use Rattle.aplc_gen.specs.Emitted.{is_giving, result_code, count_down, leave_by}
 use Rattle.aplc_gen.specs.Laid.{is_laid_result}
-use Rattle.aplc_gen.proofs.Relation.{IsHeld, IsNamed, IsResult, Bounds, IsCounted, Common, Between, owe}
+use Rattle.aplc_gen.specs.Relation.{IsHeld, IsNamed, IsResult, Bounds, IsCounted, Common, Between, owe}
 use Rattle.aplc_gen.proofs.Writes.{set_does, quiet_written, held_kept, held_of, named_kept, counted_same, common_todo, globals_kept, globals_passed, locals_global, between_kept, between_looser, owes, owes_both, between_todo, between_settled, global_differs}
 
 -- ---- What is left behind

@@ -14,7 +14,7 @@ use Rattle.aplc_names.specs.States.{Marking}
 use Rattle.aplc_core.specs.CoreLaws.{KeepsRuns}
 use Rattle.aplc_core.specs.CorePrograms.{Core}
 use Rattle.aplc_core.specs.Lowering.{lowered_program}
-use Rattle.aplc_gen.specs.Emitted.{program_code}
+use Rattle.aplc_gen.specs.Codes.{IsProgramOf}
 use Rattle.aplc_gen.specs.Layouts.{Layout}
 use Rattle.aplc_gen.specs.Made.{is_modest}
 use Rattle.aplc_gen.specs.Sparing.{spared}
@@ -48,23 +48,23 @@ IsMade c y = (ranks : List ℕ) × (y ≡ spared (lowered_core c) ranks)
 pub layout_fits : (c : Core) (y : Layout) → IsAccepted c → IsMade c y → FitsProgram y c
 layout_fits c y h (ranks, e) = subst (λ (z : Layout). FitsProgram z c) (sym e) (spared_fits c ranks h.sound h.modest)
 
-code_same : (c : Core) (y z : Layout) (x : CProgram) → y ≡ z → x ≡ program_code y (lowered_core c) → program_code z (lowered_core c) ≡ x
-code_same c y z x e is = sym (is ∙ ap (λ (w : Layout). program_code w (lowered_core c)) e)
+program_by : (c : Core) (y z : Layout) (x : CProgram) → y ≡ z → IsProgramOf y (lowered_core c) x → IsProgramOf z (lowered_core c) x
+program_by c y z x e is = subst (λ (w : Layout). IsProgramOf w (lowered_core c) x) e is
 
-pub code_formed : (c : Core) (y : Layout) (x : CProgram) → IsAccepted c → IsMade c y → x ≡ program_code y (lowered_core c) → IsWellFormed x
+pub code_formed : (c : Core) (y : Layout) (x : CProgram) → IsAccepted c → IsMade c y → IsProgramOf y (lowered_core c) x → IsWellFormed x
 code_formed c y x h (ranks, e) is =
     let p = lowered_core c in
-    subst (λ (z : CProgram). IsWellFormed z) (code_same c y (spared p ranks) x e is) (program_formed (spared p ranks) p h.sound (spared_laid p ranks h.sound h.modest) (spared_counts p ranks h.sound h.modest))
+    program_formed x (spared p ranks) p (program_by c y (spared p ranks) x e is) h.sound (spared_laid p ranks h.sound h.modest) (spared_counts p ranks h.sound h.modest)
 
 -- the core run is the eager run
 eagerly : (p : PlainProgram) → KeepsRuns p → (m : Marking) (input : List ℕ) (c : ℕ → Standing) → Alike (core_behaviour (lowered_program p) m input) c → Alike (source_behaviour p m input) c
 eagerly p keeps m input c alike = subst (λ (s : ℕ → Standing). Alike s c) (fun_ext (λ n. ap run_shown (keeps.runs m input n))) alike
 
-pub code_alike : (c : Core) (y : Layout) (x : CProgram) → IsAccepted c → KeepsRuns (plain c.program) → IsMade c y → x ≡ program_code y (lowered_core c) → (m : Marking) (input : List ℕ) → Alike (source_behaviour (plain c.program) m input) (behaviour x input)
+pub code_alike : (c : Core) (y : Layout) (x : CProgram) → IsAccepted c → KeepsRuns (plain c.program) → IsMade c y → IsProgramOf y (lowered_core c) x → (m : Marking) (input : List ℕ) → Alike (source_behaviour (plain c.program) m input) (behaviour x input)
 code_alike c y x h keeps (ranks, e) is m input =
     let p = lowered_core c in
     eagerly (plain c.program) keeps m input (behaviour x input)
-    (subst (λ (z : CProgram). Alike (core_behaviour p m input) (behaviour z input)) (code_same c y (spared p ranks) x e is) (program_alike (spared p ranks) p h.sound (spared_laid p ranks h.sound h.modest) m input))
+    (program_alike x (spared p ranks) p (program_by c y (spared p ranks) x e is) h.sound (spared_laid p ranks h.sound h.modest) m input)
 
 -- ---- Answers that hold where there is a value
 

@@ -13,7 +13,7 @@ use Rattle.aplc_core.specs.CoreRuns.{CoreRoutine}
 use Rattle.aplc_gen.specs.Layouts.{Site, the_routine, the_frame}
 use Rattle.aplc_gen.specs.Emitted.{known_after, known_behind, known_through, is_branch, branches, landing, first_line, is_entry, first_known, entry_known}
 use Rattle.aplc_gen.specs.Laid.{are_among, are_laid_lines, are_laid_arms, known_at_end, is_laid_site, is_laid_name, is_laid_result}
-use Rattle.aplc_gen.proofs.Relation.{Knows}
+use Rattle.aplc_gen.specs.Relation.{Knows}
 use Rattle.aplc_gen.proofs.Frames.{and_left, and_right}
 use Rattle.aplc_gen.proofs.Landing.{Lines, From, from_next, from_all, or_right, or_cases, eq_of}
 

@@ -14,7 +14,7 @@ use Rattle.aplc_gen.specs.Sound.{is_own_name}
 use Rattle.aplc_gen.specs.Layouts.{Site, the_frame, the_routine, global_base}
 use Rattle.aplc_gen.specs.Emitted.{leave_by, leave_code}
 use Rattle.aplc_gen.specs.Laid.{is_laid_result}
-use Rattle.aplc_gen.proofs.Relation.{course, Fails, Waits, Bounds, Between, owe}
+use Rattle.aplc_gen.specs.Relation.{course, Fails, Waits, Bounds, Between, owe}
 use Rattle.aplc_gen.proofs.Writes.{Looser, common_looser}
 use Rattle.aplc_gen.proofs.Frames.{Gone, leave_does}
 

@@ -1,7 +1,7 @@
 pub mod Adding
 pub mod Arms
 pub mod Behaving
-pub mod Bodies
+pub mod BodyCodes
 pub mod Branching
 pub mod Calling
 pub mod Calls
@@ -22,6 +22,9 @@ pub mod Landing
 pub mod Laying
 pub mod LayoutExamples
 pub mod Leaving
+pub mod LineCodes
+pub mod LineMaps
+pub mod LineSteps
 pub mod Lines
 pub mod Listed
 pub mod MadeCounts
@@ -39,7 +42,6 @@ pub mod Outcomes
 pub mod Places
 pub mod Programs
 pub mod Reaching
-pub mod Relation
 pub mod Sites
 pub mod SoundCalls
 pub mod SoundCosts

@@ -3,6 +3,7 @@ use Rattle.std.proofs.Common.{◌≡◌, ℕ, zero, suc, ◌+◌, ◌-◌, ◌<�
 use Rattle.std.specs.Prelude.{Option, Some, map}
 use Rattle.aplc_arr.specs.Arrays.{Array}
 use Rattle.aplc_cprof.specs.declared.syntax.Int.TheVariants as int
+use Rattle.aplc_cprof.specs.declared.syntax.Arm.{Arm}
 use Rattle.aplc_cprof.specs.declared.syntax.CStmt.{CStmt}
 use Rattle.aplc_cprof.specs.declared.syntax.CStmt.TheVariants as stmt
 use Rattle.aplc_cprof.specs.Machine.{Todo, Code, Caller, Is, read_int, numbered, settled}
@@ -12,13 +13,15 @@ use Rattle.aplc_names.specs.States.{Places, Place, World, State, Marking, Outcom
 use Rattle.aplc_names.specs.States as outcome
 use Rattle.aplc_names.specs.Eager.{line_named}
 use Rattle.aplc_names.specs.Runs.{result_of, place_of}
+use Rattle.aplc_core.specs.PlainSteps.{Effect}
 use Rattle.aplc_core.specs.CoreRuns.{CoreRoutine, PlainCore, steps_at, begun, core_run}
 use Rattle.aplc_gen.specs.Shown.{place_shown}
 use Rattle.aplc_gen.specs.Sound.{are_lines}
 use Rattle.aplc_gen.specs.Layouts.{Layout, Site, the_routine, the_frame, line_place}
-use Rattle.aplc_gen.specs.Emitted.{landing, first_line, is_entry, lines_loop, entry_known, is_line_test, lines_code, loop_code, site_at}
-use Rattle.aplc_gen.specs.Laid.{are_laid_lines, known_at_end, lines_fall}
-use Rattle.aplc_gen.proofs.Relation.{Bounds, Between, pay}
+use Rattle.aplc_gen.specs.Emitted.{landing, first_line, is_entry, lines_loop, entry_known, is_line_test, site_at}
+use Rattle.aplc_gen.specs.Codes.{IsServed, Simulates, AreLines, AreArms, turn_code}
+use Rattle.aplc_gen.specs.Laid.{are_laid_lines, known_at_end, lines_fall, is_counted}
+use Rattle.aplc_gen.specs.Relation.{Bounds, Between, pay}
 use Rattle.aplc_gen.proofs.Writes.{globals_kept, counted_same, counted_other, locals_kept, between_looser}
 use Rattle.aplc_gen.proofs.Outcomes.{run_none, run_waits, run_line}
 use Rattle.aplc_gen.proofs.Leaving.{left_looser, Stands, Goal}
@@ -76,6 +79,7 @@ pub record Sits (y : Layout) (p : PlainCore) (rank : ℕ → ℕ) (first : Bool)
   pub laid : SiteLaid (site_at y p first j)
   pub lines : are_lines p (the_routine (site_at y p first j)).header.scope (the_routine (site_at y p first j)).steps ≡ true
   pub few : length (the_routine (site_at y p first j)).steps ≤ 999
+  pub counts : is_counted y.called y.counted ≡ true
   pub falls : y.counted ≡ false → lines_fall rank j (the_routine (site_at y p first j)) (the_routine (site_at y p first j)).steps ≡ true
 
 -- and of the frames that stand
@@ -83,38 +87,56 @@ pub record Room (y : Layout) (rank : ℕ → ℕ) (j : ℕ) (behind : List Place
   pub few : 1 + length behind ≤ 4096
   pub shallow : y.counted ≡ false → 1 + length behind + rank j ≤ 4096
 
+-- ---- Lines of code
+
+-- what is known of the code of the steps of a line
+abbrev pub Line : Site → List ℕ → ℕ → List Effect → List CStmt → Type 0
+Line g known l xs code = IsServed g known xs → Simulates g known l xs code
+
 -- ---- Heads of loops
 
-abbrev pub segment : Site → ℕ → Lines → CStmt
-segment g l xs = stmt.While (is_line_test g l) (lines_code g (entry_known g l) false l xs)
+abbrev pub segment : Site → ℕ → List CStmt → CStmt
+segment g l body = stmt.While (is_line_test g l) body
 
 -- what is due at the end of an arm: the arm's segment again, within the function's loop
 pub record Inner (g : Site) (due : Todo) : Type 0 where
   pub entry : ℕ
   pub lines : Lines
+  pub body : List CStmt
+  pub all : List Arm
   pub number : ℕ
   pub outer : ℕ
   pub rest : Todo
-  pub is : due ≡ (number, segment g (suc entry) lines) ∷ (outer, loop_code g) ∷ rest
+  pub is : due ≡ (number, segment g (suc entry) body) ∷ (outer, turn_code g all) ∷ rest
+  pub code : AreLines (Line g) g (entry_known g (suc entry)) false (suc entry) lines body
+  pub arms : AreArms (Line g) g 1 (the_routine g).steps all
   pub from : From (the_routine g) (suc entry) lines
   pub inside : suc entry ≤ length (the_routine g).steps
   pub arm : is_entry (the_routine g) (suc entry) ≡ true
 
+-- the function's loop is due
+pub record Outer (g : Site) (due : Todo) : Type 0 where
+  pub number : ℕ
+  pub all : List Arm
+  pub rest : Todo
+  pub is : due ≡ (number, turn_code g all) ∷ rest
+  pub arms : AreArms (Line g) g 1 (the_routine g).steps all
+
 -- the head of the function's loop, or that of a segment
 abbrev pub IsHead : Site → Todo → Type 0
-IsHead g due = ((h : ℕ) × (rest : Todo) × (due ≡ (h, loop_code g) ∷ rest)) ⊎ Inner g due
+IsHead g due = Outer g due ⊎ Inner g due
 
 module _ (c : Code) (n : ℕ) (p : PlainCore) (y : Layout) (m : Marking) (rank : ℕ → ℕ) where
   -- ---- What is proved for every k
 
   -- from line l on, where it is only gone through to it or not
   abbrev pub LinesDo : Bool → ℕ → Type 0
-  LinesDo through k = (first : Bool) (j : ℕ) (l i : ℕ) (xs : Lines) (known : List ℕ) (head : Todo) (a : Bounds) (behind : List Place) (outer : Places) (cs : List Caller) (S : State) (s : machine.State) →
+  LinesDo through k = (first : Bool) (j : ℕ) (l i : ℕ) (xs : Lines) (code : List CStmt) (known : List ℕ) (head : Todo) (a : Bounds) (behind : List Place) (outer : Places) (cs : List Caller) (S : State) (s : machine.State) →
       n ≤ a.lines → Sits y p rank first j → Stands (site_at y p first j) outer behind cs → Room y rank j behind →
       (lines_loop (the_routine (site_at y p first j)) (the_routine (site_at y p first j)).steps ≡ true → IsHead (site_at y p first j) head) →
       (through ≡ true → first_line (the_routine (site_at y p first j)) < l) →
       From (the_routine (site_at y p first j)) l xs → are_laid_lines (site_at y p first j) known through l xs ≡ true → Among (the_frame (site_at y p first j)).sure (known_at_end (site_at y p first j) known through l xs) →
-      s.todo ≡ numbered i (lines_code (site_at y p first j) known through l xs) ++ head →
+      AreLines (Line (site_at y p first j)) (site_at y p first j) known through l xs code → s.todo ≡ numbered i code ++ head →
       Between (site_at y p first j) (pay (spare through) (at_line a l k)) known (place_of (the_routine (site_at y p first j)).header) behind cs S.world s →
       Comes c Any s (Goal c n (site_at y p first j) (with_fuel k a) outer cs (core_run p m k (the_routine (site_at y p first j)) l S))
 

@@ -16,7 +16,7 @@ use Rattle.aplc_gen.specs.Sound.{Ready, is_variable, is_readable}
 use Rattle.aplc_gen.specs.Layouts.{Site, value_place, flag_place, is_unsure}
 use Rattle.aplc_gen.specs.Emitted.{guard, scope_at, name_operand, read_code}
 use Rattle.aplc_gen.specs.Laid.{has_place, is_flagged, is_label}
-use Rattle.aplc_gen.proofs.Relation.{Holds, IsNamed, Knows, Shows, Here, Bounds, Same, Kept, gain}
+use Rattle.aplc_gen.specs.Relation.{Holds, IsNamed, Knows, Shows, Here, Bounds, Same, Kept, gain}
 use Rattle.aplc_gen.proofs.Writes.{held_of}
 use Rattle.aplc_gen.proofs.Computing.{value_literal}
 use Rattle.aplc_gen.proofs.Values.{same_refl, ready_given}

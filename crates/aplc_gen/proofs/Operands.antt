@@ -19,7 +19,7 @@ use Rattle.aplc_gen.specs.Built.{number_of}
 use Rattle.aplc_gen.specs.Layouts.{Site, the_frame, place_in, slot_place, base, global_base, value_place}
 use Rattle.aplc_gen.specs.Emitted.{literal_expr, local, is_minus, scope_at, name_operand, operand}
 use Rattle.aplc_gen.specs.Laid.{has_place, is_flagged, is_laid_term}
-use Rattle.aplc_gen.proofs.Relation.{Holds, IsHeld, Kept}
+use Rattle.aplc_gen.specs.Relation.{Holds, IsHeld, Kept}
 use Rattle.aplc_gen.proofs.Writes.{place_below}
 use Rattle.aplc_gen.proofs.Frames.{and_left}
 use Rattle.aplc_gen.proofs.Computing.{kept_local, kept_global}

@@ -9,7 +9,7 @@ use Rattle.aplc_names.specs.Runs.{result_of, after}
 use Rattle.aplc_core.specs.PlainSteps.{Effect, Keep, Store, StoreAt, Call, ReadText, ReadNums, Show, Branch}
 use Rattle.aplc_core.specs.CoreRuns.{Told, Slots, CoreRoutine, PlainCore, step_done, steps_done, line_done, steps_at, begun, from_steps, core_context, core_run}
 use Rattle.aplc_gen.specs.Emitted.{is_branch}
-use Rattle.aplc_gen.proofs.Relation.{course}
+use Rattle.aplc_gen.specs.Relation.{course}
 
 -- one computation after another is seen as such
 pub course_then : {A B : Type 0} (o : Outcome A) (k : A → State → Outcome B) → course (and_then o k) ≡ matching.and_then (course o) (λ x T. course (k x T))

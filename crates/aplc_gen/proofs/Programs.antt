@@ -1,8 +1,11 @@
 -- Whole programs: the C program behaves as the core run does.
-use Rattle.std.proofs.Common.{◌≡◌, ℕ, zero, suc, ◌<◌, ◌≤◌, List, [], ◌∷◌, ◌⊎◌, inl, inr, refl, sym, ap, ◌∙◌, subst, arith, Bool, true, false, cond, length}
-use Rattle.std.specs.Prelude.{Option, Some, None, ◌&&◌, map, nat_eq, nat_le, slice_get, unwrap_or, option_and_then}
+use Rattle.std.proofs.Common.{◌≡◌, ℕ, zero, suc, ◌<◌, ◌≤◌, List, [], ◌∷◌, ◌++◌, ◌⊎◌, inl, inr, refl, sym, ap, ◌∙◌, subst, arith, Bool, true, false, cond, length}
+use Rattle.std.specs.Prelude.{Option, Some, None, ◌&&◌, nat_eq, nat_le, slice_get, unwrap_or, option_and_then}
 use Rattle.std.proofs.lemmas.Bool.Decides.{nat_tests, eqb_tells}
-use Rattle.aplc_cprof.specs.Machine.{Code, code_of}
+use Rattle.aplc_cprof.specs.declared.syntax.CStmt.{CStmt}
+use Rattle.aplc_cprof.specs.declared.syntax.CFunction.{CFunction}
+use Rattle.aplc_cprof.specs.declared.syntax.CProgram.{CProgram}
+use Rattle.aplc_cprof.specs.Machine.{Code, code_of, numbered}
 use Rattle.aplc_cprof.specs.Behaviour.{IsStuck}
 use Rattle.aplc_cprof.proofs.Functions.{body_of}
 use Rattle.aplc_names.specs.States.{Marking, is_among}
@@ -11,31 +14,47 @@ use Rattle.aplc_names.specs.Runs as runs
 use Rattle.aplc_core.specs.CoreRuns.{CoreRoutine, PlainCore, no_core, main_core}
 use Rattle.aplc_gen.specs.Shown.{run_shown}
 use Rattle.aplc_gen.specs.Sound.{has_own_names, are_lines, is_routine, are_routines, begins, is_sound}
-use Rattle.aplc_gen.specs.Layouts.{Layout, Site, place_in, function_place, routine_at, for_calls}
+use Rattle.aplc_gen.specs.Layouts.{Layout, Site, place_in, function_place, routine_at, the_routine, for_calls}
 use Rattle.aplc_cprof.specs.WellFormed.{is_name as is_text_name}
-use Rattle.aplc_gen.specs.Emitted.{site_at, called_code, program_code}
+use Rattle.aplc_gen.specs.Emitted.{site_at, enter_code, lines_loop}
+use Rattle.aplc_gen.specs.Codes.{IsLine, IsRun, IsBody, IsFunction, AreCalled, IsProgramOf}
 use Rattle.aplc_gen.specs.Laid.{is_laid_site, are_laid_sites, lines_fall, IsShallow, IsLaid}
 use Rattle.aplc_gen.proofs.Frames.{and_left, and_right}
 use Rattle.aplc_gen.proofs.Landing.{eq_of, or_cases}
 use Rattle.aplc_gen.proofs.Knowing.{site_laid}
-use Rattle.aplc_gen.proofs.Lines.{Sits}
+use Rattle.aplc_gen.proofs.Lines.{Sits, Line}
+use Rattle.aplc_gen.proofs.LineMaps.{run_less}
 use Rattle.aplc_gen.proofs.Calls.{Callable}
 
 -- ---- Functions by their numbers
 
-get_map : {A B : Type 0} (h : A → B) (xs : List A) (k : ℕ) (a : A) → slice_get xs k ≡ Some a → slice_get (map h xs) k ≡ Some (h a)
-get_map h [] k a e = absurd (cc)
-get_map h (x ∷ xs) zero a e = let is : x ≡ a = cc in ap (λ z. Some (h z)) is
-get_map h (x ∷ xs) (suc k) a e = get_map h xs k a e
+-- the C function of one that is called
+pub record Found (y : Layout) (p : PlainCore) (js : List ℕ) (fs : List CFunction) (j : ℕ) : Type 0 where
+  pub function : CFunction
+  pub there : slice_get fs (place_in js j) ≡ Some function
+  pub is : IsFunction (site_at y p false j) function
 
-place_get : (xs : List ℕ) (j : ℕ) → is_among j xs ≡ true → slice_get xs (place_in xs j) ≡ Some j
-place_get [] j h = absurd (cc)
-place_get (x ∷ xs) j h = by (place_get xs j) (eqb_tells x j) (or_cases (nat_eq j x) (is_among j xs) h)
+called_at : (y : Layout) (p : PlainCore) (js : List ℕ) (fs : List CFunction) (j : ℕ) → AreCalled y p js fs → is_among j js ≡ true → Found y p js fs j
+called_at y p [] fs j its h = absurd (cc)
+called_at y p (x ∷ xs) fs j (f, rest, is, its, later) h = by (λ e. called_at y p xs rest j later e) (eqb_tells x j) (or_cases (nat_eq j x) (is_among j xs) h)
   where
-    by : (is_among j xs ≡ true → slice_get xs (place_in xs j) ≡ Some j) → ((nat_eq x j ≡ true) × (x ≡ j)) ⊎ ((nat_eq x j ≡ false) × (x ≡ j → ⊥)) → (nat_eq j x ≡ true) ⊎ (is_among j xs ≡ true) → slice_get (x ∷ xs) (place_in (x ∷ xs) j) ≡ Some j
-    by ih (inl e) o = ap (λ b. slice_get (x ∷ xs) (cond b 0 (suc (place_in xs j)))) e.0 ∙ ap Some e.1
+    here : nat_eq x j ≡ true → x ≡ j → Found y p (x ∷ xs) fs j
+    here e same = record { function = f; there = ap (λ (gs : List CFunction). slice_get gs (cond (nat_eq x j) 0 (suc (place_in xs j)))) is ∙ ap (λ b. slice_get (f ∷ rest) (cond b 0 (suc (place_in xs j)))) e; is = subst (λ i. IsFunction (site_at y p false i) f) same its }
+
+    there : nat_eq x j ≡ false → Found y p xs rest j → Found y p (x ∷ xs) fs j
+    there e q = record { function = q.function; there = ap (λ (gs : List CFunction). slice_get gs (cond (nat_eq x j) 0 (suc (place_in xs j)))) is ∙ ap (λ b. slice_get (f ∷ rest) (cond b 0 (suc (place_in xs j)))) e ∙ q.there; is = q.is }
+
+    by : (is_among j xs ≡ true → Found y p xs rest j) → ((nat_eq x j ≡ true) × (x ≡ j)) ⊎ ((nat_eq x j ≡ false) × (x ≡ j → ⊥)) → (nat_eq j x ≡ true) ⊎ (is_among j xs ≡ true) → Found y p (x ∷ xs) fs j
+    by ih (inl e) o = here e.0 e.1
     by ih (inr ne) (inl e) = absurd (ne.1 (sym (eq_of j x e)))
-    by ih (inr ne) (inr e) = ap (λ b. slice_get (x ∷ xs) (cond b 0 (suc (place_in xs j)))) ne.0 ∙ ih e
+    by ih (inr ne) (inr e) = there ne.0 (ih e)
+
+-- what is asked of its lines is what they do
+pub run_of_function : (g : Site) (f : CFunction) → IsFunction g f → (run : List CStmt) × (f.body ≡ enter_code g ++ run) × IsRun (Line g) g (lines_loop (the_routine g) (the_routine g).steps) run
+run_of_function g f is = by is.body
+  where
+    by : IsBody (IsLine g f.ints f.bufs) g f.body → (run : List CStmt) × (f.body ≡ enter_code g ++ run) × IsRun (Line g) g (lines_loop (the_routine g) (the_routine g).steps) run
+    by (run, code, its) = (run, code, run_less (IsLine g f.ints f.bufs) (Line g) g (λ known l xs mine h. h.does) (lines_loop (the_routine g) (the_routine g).steps) run its)
 
 calls_base : (xs : List ℕ) (j : ℕ) → is_among j xs ≡ true → for_calls xs ≡ 5
 calls_base [] j h = absurd (cc)
@@ -102,9 +121,9 @@ source_fine (runs.Ended o marks) h = h
 source_fine (runs.Faulted o marks k places) h = h
 source_fine (runs.Going o marks) h = h
 
-module _ (y : Layout) (p : PlainCore) (is : is_sound p ≡ true) (laid : IsLaid y p) (m : Marking) (input : List ℕ) where
+module _ (z : CProgram) (y : Layout) (p : PlainCore) (whole : IsProgramOf y p z) (is : is_sound p ≡ true) (laid : IsLaid y p) (m : Marking) (input : List ℕ) where
   abbrev pub C : Code
-  C = code_of (program_code y p)
+  C = code_of z
 
   pub start : ℕ
   start = unwrap_or p.start 0
@@ -116,13 +135,15 @@ module _ (y : Layout) (p : PlainCore) (is : is_sound p ≡ true) (laid : IsLaid 
   fine j = routine_fine p p.routines j (and_right (begins (option_and_then (slice_get p.routines) p.start)) (are_routines p p.routines) is)
 
   pub sits_of : (first : Bool) (j : ℕ) → is_laid_site (site_at y p first j) ≡ true → Sits y p r.rank first j
-  sits_of first j ok = record { laid = site_laid (site_at y p first j) ok; lines = (fine j).lines; few = (fine j).few; falls = λ h. r.falls h j }
+  sits_of first j ok = record { laid = site_laid (site_at y p first j) ok; lines = (fine j).lines; few = (fine j).few; counts = laid.counts; falls = λ h. r.falls h j }
 
-  pub callable : (n : ℕ) (j : ℕ) → is_among j y.called ≡ true → Callable (code_of (program_code y p)) n p y m r.rank j
+  pub callable : (n : ℕ) (j : ℕ) → is_among j y.called ≡ true → Callable (code_of z) n p y m r.rank j
   callable n j among =
-      let got : slice_get (program_code y p).functions (function_place y j) ≡ Some (called_code y p j) = get_map (called_code y p) y.called (place_in y.called j) j (place_get y.called j among) in
-      let b = body_of (program_code y p) (function_place y j) (called_code y p j) got in
-      record { sits = sits_of false j (site_of y p y.called j laid.calls among); base_is = calls_base y.called j among; own = (fine j).own; place = b.0; body = b.1 }
+      let q = called_at y p y.called whole.rest j whole.called among in
+      let got : slice_get z.functions (function_place y j) ≡ Some q.function = ap (λ (fs : List CFunction). slice_get fs (function_place y j)) whole.functions ∙ q.there in
+      let b = body_of z (function_place y j) q.function got in
+      let run = run_of_function (site_at y p false j) q.function q.is in
+      record { sits = sits_of false j (site_of y p y.called j laid.calls among); base_is = calls_base y.called j among; own = (fine j).own; place = b.0; run = run.0; is_run = run.2; body = b.1 ∙ ap (λ (zs : List CStmt). Some (numbered b.0 zs)) run.1 }
 
   -- MAIN as the run begins with it
   abbrev g : Site

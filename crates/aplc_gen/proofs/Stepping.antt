@@ -18,9 +18,9 @@ use Rattle.aplc_core.specs.CoreRuns.{Told, Slots}
 use Rattle.aplc_gen.specs.Built.{is_number}
 use Rattle.aplc_gen.specs.Sound.{Ready, is_read, is_term}
 use Rattle.aplc_gen.specs.Layouts.{Site, the_routine}
-use Rattle.aplc_gen.specs.Emitted.{Lead, out, to, computed, landing, lead_at, lead_of_line, lead_by, known_number, lead, may_lead, steps_lead, steps_loop, lines_loop, is_out, is_entry, literal_expr, operand, tree_code, known_after, known_behind, known_through, is_branch, branches, step_code, steps_code, branch_code, go_to, leave_code, site_at}
+use Rattle.aplc_gen.specs.Emitted.{Lead, out, to, computed, landing, lead_at, lead_of_line, lead_by, known_number, lead, may_lead, steps_lead, steps_loop, lines_loop, is_out, is_entry, literal_expr, operand, tree_code, known_after, known_behind, known_through, is_branch, branches, step_code, go_to, leave_code, site_at}
 use Rattle.aplc_gen.specs.Emitted as emitted
-use Rattle.aplc_gen.proofs.Relation.{IsNumber, Bounds, Here, Between, effect_works, pay}
+use Rattle.aplc_gen.specs.Relation.{IsNumber, Bounds, Here, Between, effect_works, pay}
 
 -- ---- A branch whose number is known
 

@@ -12,7 +12,7 @@ use Rattle.aplc_gen.specs.Sound.{Ready, ready_after, is_variable, is_term, is_ef
 use Rattle.aplc_gen.specs.Layouts.{Layout, Site, the_routine, the_frame}
 use Rattle.aplc_gen.specs.Emitted.{scope_at, step_code, known_behind, is_branch}
 use Rattle.aplc_gen.specs.Laid.{has_place, is_laid_term, is_laid_step, step_falls, is_counted}
-use Rattle.aplc_gen.proofs.Relation.{Here, Bounds, HasRoom, Fails, Waits, Sim, TreesDo, CallsDo, StepsDo, bounds_behind, course, pay, owe, for_line}
+use Rattle.aplc_gen.specs.Relation.{Here, Bounds, HasRoom, Fails, Waits, Sim, TreesDo, CallsDo, StepsDo, bounds_behind, course, pay, owe, for_line}
 use Rattle.aplc_gen.proofs.Frames.{and_left, and_right}
 use Rattle.aplc_gen.proofs.Writes.{here_looser}
 use Rattle.aplc_gen.proofs.StepsSlots.{keep_does}

@@ -16,7 +16,7 @@ use Rattle.aplc_gen.specs.Layouts.{Layout, Site, the_routine, routine_at, frame_
 use Rattle.aplc_gen.specs.Layouts as layouts
 use Rattle.aplc_gen.specs.Emitted.{pass_code, got_code, is_giving, step_code}
 use Rattle.aplc_gen.specs.Laid.{is_laid_slot, is_laid_step, step_falls}
-use Rattle.aplc_gen.proofs.Relation.{Passed, Here, Bounds, Returned, HasRoom, Sim, CallsDo, pay, owe, for_line}
+use Rattle.aplc_gen.specs.Relation.{Passed, Here, Bounds, Returned, HasRoom, Sim, CallsDo, pay, owe, for_line}
 use Rattle.aplc_gen.proofs.Frames.{and_left, and_right}
 use Rattle.aplc_gen.proofs.Trees.{sim_then}
 use Rattle.aplc_gen.proofs.StepsPasses.{IsPassed, pass_does, passed_stays, sim_after}

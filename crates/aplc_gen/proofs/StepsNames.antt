@@ -16,7 +16,7 @@ use Rattle.aplc_gen.specs.Sound.{Ready, is_variable, is_term, term_cost}
 use Rattle.aplc_gen.specs.Layouts.{Site, the_routine, base, value_place, flag_place, is_unsure}
 use Rattle.aplc_gen.specs.Emitted.{operand, tree_code, step_code, store_code, known_after, scope_at}
 use Rattle.aplc_gen.specs.Laid.{has_place, is_laid_term, is_counted}
-use Rattle.aplc_gen.proofs.Relation.{IsNamed, Here, Bounds, Computed, Sim, TreesDo, works, pay_if, pay, owe, for_line}
+use Rattle.aplc_gen.specs.Relation.{IsNamed, Here, Bounds, Computed, Sim, TreesDo, works, pay_if, pay, owe, for_line}
 use Rattle.aplc_gen.proofs.Writes.{here_looser}
 use Rattle.aplc_gen.proofs.Computing.{here_computed}
 use Rattle.aplc_gen.proofs.Values.{ready_given}

@@ -16,7 +16,7 @@ use Rattle.aplc_core.specs.CoreRuns.{Slots, kept_in, value_of}
 use Rattle.aplc_gen.specs.Sound.{Ready, is_kept, both_or_none}
 use Rattle.aplc_gen.specs.Layouts.{Site, slot_place, global_base}
 use Rattle.aplc_gen.specs.Emitted.{local, pass_code}
-use Rattle.aplc_gen.proofs.Relation.{Here, Bounds, Passed, owe, Fails, Waits, Sim, course}
+use Rattle.aplc_gen.specs.Relation.{Here, Bounds, Passed, owe, Fails, Waits, Sim, course}
 use Rattle.aplc_gen.proofs.Writes.{quiet_written, here_kept, here_todo, here_looser, globals_passed, locals_global, slots_global, global_differs, held_kept, set_does, Looser}
 
 pub passed_stays : (k : ℕ) (r : Option ℕ) (o : Option Array) (s t : machine.State) → read_int (int.Global k) t ≡ read_int (int.Global k) s → Passed r (int.Global k) o s → Passed r (int.Global k) o t

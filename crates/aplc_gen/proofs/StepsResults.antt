@@ -24,7 +24,7 @@ use Rattle.aplc_gen.specs.Layouts.{Site, Layout, the_frame, slot_place, local_va
 use Rattle.aplc_gen.specs.Layouts as layouts
 use Rattle.aplc_gen.specs.Emitted.{scope_at, guard, got_code}
 use Rattle.aplc_gen.specs.Laid.{is_laid_slot}
-use Rattle.aplc_gen.proofs.Relation.{IsHeld, IsNamed, IsResult, Common, Here, Bounds, Shows, Returned, Sim, pay, owe, for_line}
+use Rattle.aplc_gen.specs.Relation.{IsHeld, IsNamed, IsResult, Common, Here, Bounds, Shows, Returned, Sim, pay, owe, for_line}
 use Rattle.aplc_gen.proofs.Writes.{locals_kept, ready_kept, set_does, here_looser, Looser, here_settled, here_todo}
 use Rattle.aplc_gen.proofs.Values.{ready_given}
 use Rattle.aplc_gen.proofs.Checks.{guard_passes, guard_faults}

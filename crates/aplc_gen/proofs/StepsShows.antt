@@ -27,7 +27,7 @@ use Rattle.aplc_gen.specs.Sound.{Ready, is_term, term_cost}
 use Rattle.aplc_gen.specs.Layouts.{Site, the_routine, base}
 use Rattle.aplc_gen.specs.Emitted.{operand, tree_code, step_code, display_code, known_after, scope_at}
 use Rattle.aplc_gen.specs.Laid.{is_laid_term}
-use Rattle.aplc_gen.proofs.Relation.{Knows, Here, Bounds, Computed, Sim, TreesDo, works, pay_if, pay, owe, for_line}
+use Rattle.aplc_gen.specs.Relation.{Knows, Here, Bounds, Computed, Sim, TreesDo, works, pay_if, pay, owe, for_line}
 use Rattle.aplc_gen.proofs.Writes.{locals_kept, globals_kept, ready_kept, counted_same, counted_other, Looser, here_looser}
 use Rattle.aplc_gen.proofs.Computing.{here_computed}
 use Rattle.aplc_gen.proofs.TreesReads.{sim_given}

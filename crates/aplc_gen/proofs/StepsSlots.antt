@@ -19,7 +19,7 @@ use Rattle.aplc_gen.specs.Sound.{Ready, keeping, is_term, term_cost}
 use Rattle.aplc_gen.specs.Layouts.{Site, the_routine, the_frame, slot_place, base}
 use Rattle.aplc_gen.specs.Emitted.{operand, tree_code, step_code, known_after}
 use Rattle.aplc_gen.specs.Laid.{is_laid_term}
-use Rattle.aplc_gen.proofs.Relation.{IsNumber, InSlot, Here, Bounds, Computed, Sim, TreesDo, works, pay_if, owe}
+use Rattle.aplc_gen.specs.Relation.{IsNumber, InSlot, Here, Bounds, Computed, Sim, TreesDo, works, pay_if, owe}
 use Rattle.aplc_gen.proofs.Writes.{quiet_written, common_kept, locals_kept, held_kept, globals_local, locals_local, local_differs, set_does, Looser, here_looser}
 use Rattle.aplc_gen.proofs.Computing.{here_computed}
 use Rattle.aplc_gen.proofs.TreesReads.{sim_given}

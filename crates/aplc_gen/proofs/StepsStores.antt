@@ -26,7 +26,7 @@ use Rattle.aplc_gen.specs.Layouts.{Layout, Site, the_routine, the_frame, place_i
 use Rattle.aplc_gen.specs.Layouts as layouts
 use Rattle.aplc_gen.specs.Emitted.{scope_at, store_code, flag_code, not_known}
 use Rattle.aplc_gen.specs.Laid.{has_place, is_counted}
-use Rattle.aplc_gen.proofs.Relation.{IsNumber, IsHeld, IsNamed, Knows, IsCounted, Here, Bounds, Same, pay, owe, for_line}
+use Rattle.aplc_gen.specs.Relation.{IsNumber, IsHeld, IsNamed, Knows, IsCounted, Here, Bounds, Same, pay, owe, for_line}
 use Rattle.aplc_gen.proofs.TreesReads.{knows_same}
 use Rattle.aplc_gen.proofs.Writes.{Quiet, quiet_written, quiet_trans, quiet_less, place_below, local_differs, global_differs, sorts_differ, set_does, globals_kept, locals_kept, ready_kept, locals_set, globals_set, counted_other, held_kept}
 

@@ -25,7 +25,7 @@ use Rattle.aplc_gen.specs.Sound.{Ready, is_term, is_node, term_cost}
 use Rattle.aplc_gen.specs.Layouts.{Site, the_routine, base, slot_place}
 use Rattle.aplc_gen.specs.Emitted.{is_minus, is_times, is_constant, checked_of, checked_code, minus_code, local, operand, known_after, tree_code}
 use Rattle.aplc_gen.specs.Laid.{is_laid_term}
-use Rattle.aplc_gen.proofs.Relation.{Holds, InSlot, Knows, Shows, Fails, Waits, Here, Bounds, Same, Kept, Computed, Sim, TreesDo, course, works, pay_if, owe}
+use Rattle.aplc_gen.specs.Relation.{Holds, InSlot, Knows, Shows, Fails, Waits, Here, Bounds, Same, Kept, Computed, Sim, TreesDo, course, works, pay_if, owe}
 use Rattle.aplc_gen.proofs.Outcomes.{course_then}
 use Rattle.aplc_gen.proofs.Frames.{and_left, and_right}
 use Rattle.aplc_gen.proofs.Landing.{eq_of}

@@ -19,7 +19,7 @@ use Rattle.aplc_gen.specs.Sound.{Ready, is_variable, is_readable, is_read}
 use Rattle.aplc_gen.specs.Layouts.{Site, the_routine, value_place, flag_place}
 use Rattle.aplc_gen.specs.Emitted.{guard, scope_at, name_operand, read_code}
 use Rattle.aplc_gen.specs.Laid.{has_place, is_flagged}
-use Rattle.aplc_gen.proofs.Relation.{IsNamed, Holds, Knows, Shows, Here, Bounds, Same, Kept, Computed, Sim, works, owe}
+use Rattle.aplc_gen.specs.Relation.{IsNamed, Holds, Knows, Shows, Here, Bounds, Same, Kept, Computed, Sim, works, owe}
 use Rattle.aplc_gen.proofs.Writes.{here_todo, here_settled}
 use Rattle.aplc_gen.proofs.Frames.{and_left, and_right}
 use Rattle.aplc_gen.proofs.Values.{same_refl}

@@ -20,7 +20,7 @@ use Rattle.aplc_names.specs.Eager.{Context, Use, scalar, ready, give, filled, ma
 use Rattle.aplc_names.specs.Primitives.{mono_of, dyad_of, mono_applications, dyad_applications, places_listed}
 use Rattle.aplc_gen.specs.Built.{is_sign, is_checked}
 use Rattle.aplc_gen.specs.Emitted.{is_minus, checked_of}
-use Rattle.aplc_gen.proofs.Relation.{Same}
+use Rattle.aplc_gen.specs.Relation.{Same}
 
 -- ---- States
 

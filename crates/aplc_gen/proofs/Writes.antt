@@ -18,7 +18,7 @@ use Rattle.aplc_core.specs.CoreRuns.{Slots}
 use Rattle.aplc_gen.specs.Sound.{Ready}
 use Rattle.aplc_gen.specs.Layouts.{Layout, Site, the_frame, place_in, line_place, slot_place, base, global_base, local_value, local_flag, global_value, global_flag}
 use Rattle.aplc_gen.specs.Layouts as layouts
-use Rattle.aplc_gen.proofs.Relation.{IsHeld, IsNamed, Globals, Locals, AreReady, Bounds, IsCounted, Common, Here, Between, owe}
+use Rattle.aplc_gen.specs.Relation.{IsHeld, IsNamed, Globals, Locals, AreReady, Bounds, IsCounted, Common, Here, Between, owe}
 
 -- ---- Variables
 

@@ -1,5 +1,5 @@
--- The C program of a lowered program of scalars.
-use Rattle.std.specs.Prelude.{ℕ, zero, suc, ◌+◌, max, List, [], ◌∷◌, ◌++◌, length, map, drop, ℤ, pos, ◌-ℤ◌, int_lt, Bool, true, false, ◌&&◌, ◌||◌, Option, Some, None, nat_eq, if◌then◌else◌, unwrap_or}
+-- The code of a lowered program's steps of scalars, and of what stands round the lines of a function.
+use Rattle.std.specs.Prelude.{ℕ, zero, suc, ◌+◌, max, List, [], ◌∷◌, ◌++◌, length, drop, ℤ, pos, ◌-ℤ◌, int_lt, Bool, true, false, ◌&&◌, ◌||◌, Option, Some, None, nat_eq, if◌then◌else◌}
 use Rattle.std.specs.Option.{option_to_list}
 use Rattle.aplc_scalar.specs.declared.function.ScalarFn.TheVariants as f
 use Rattle.aplc_scalar.specs.declared.kind.FaultKind.TheVariants as fault
@@ -14,9 +14,6 @@ use Rattle.aplc_cprof.specs.declared.syntax.CExpr.{CExpr}
 use Rattle.aplc_cprof.specs.declared.syntax.CExpr.TheVariants as expr
 use Rattle.aplc_cprof.specs.declared.syntax.CStmt.{CStmt}
 use Rattle.aplc_cprof.specs.declared.syntax.CStmt.TheVariants as stmt
-use Rattle.aplc_cprof.specs.declared.syntax.Arm.{Arm}
-use Rattle.aplc_cprof.specs.declared.syntax.CFunction.{CFunction}
-use Rattle.aplc_cprof.specs.declared.syntax.CProgram.{CProgram}
 use Rattle.aplc_names.specs.declared.scope.Scope.{Scope}
 use Rattle.aplc_names.specs.declared.scope.Scope.TheVariants as scope
 use Rattle.aplc_names.specs.States.{is_among}
@@ -24,7 +21,7 @@ use Rattle.aplc_names.specs.Eager.{function_of, line_named}
 use Rattle.aplc_core.specs.PlainSteps.{Term, Literal, Read, Slot, Mono, Dyad, Index, Effect, Keep, Store, Call, Show, Branch}
 use Rattle.aplc_core.specs.CoreRuns.{CoreRoutine, PlainCore}
 use Rattle.aplc_gen.specs.Built.{number_of}
-use Rattle.aplc_gen.specs.Layouts.{Layout, Site, function_place, frame_of, routine_at, the_routine, the_frame, depth, right_passed, left_passed, result, result_flag, global_ints, line_place, slot_place, base, local_value, local_flag, value_place, flag_place, is_unsure}
+use Rattle.aplc_gen.specs.Layouts.{Layout, Site, function_place, frame_of, routine_at, the_routine, the_frame, depth, right_passed, left_passed, result, result_flag, line_place, slot_place, base, local_value, local_flag, value_place, flag_place, is_unsure}
 
 -- ---- Expressions
 
@@ -263,17 +260,11 @@ call_code g j a b r =
 abbrev pub display_code : CExpr → List CStmt
 display_code e = stmt.PutNum e (expr.Lit (pos 0)) ∷ stmt.PutChar (expr.Lit (pos 10)) ∷ []
 
-abbrev pub branch_code : Site → List ℕ → Term → Lead → List CStmt
-branch_code g known t out = leave_code g
-branch_code g known t (to l) = go_to g l
-branch_code g known t computed = tree_code g known (base g) t ++ stmt.Set (int.Local (line_place g)) (operand g (base g) t) ∷ []
-
 abbrev pub step_code : Site → List ℕ → Effect → List CStmt
 step_code g known (Keep k t) = tree_code g known (base g) t ++ stmt.Set (int.Local (slot_place g k)) (operand g (base g) t) ∷ []
 step_code g known (Store i n t) = tree_code g known (base g) t ++ store_code g (known_after known t) (scope_at g n) n (operand g (base g) t)
 step_code g known (Call i n a b r) = call_code g (function_of (scope_at g n)) a b r
 step_code g known (Show o t) = tree_code g known (base g) t ++ display_code (operand g (base g) t)
-step_code g known (Branch t) = branch_code g known t (lead (the_routine g) t)
 step_code g known _ = []
 
 abbrev pub known_behind : List ℕ → Effect → List ℕ
@@ -286,10 +277,16 @@ abbrev pub is_branch : Effect → Bool
 is_branch (Branch t) = true
 is_branch _ = false
 
--- a branch ends its line
-abbrev pub steps_code : Site → List ℕ → List Effect → List CStmt
-steps_code g known [] = []
-steps_code g known (x ∷ xs) = step_code g known x ++ (if is_branch x then [] else steps_code g (known_behind known x) xs)
+-- the number of the line where a computed branch leads
+abbrev pub jump_code : Site → List ℕ → Term → Lead → List CStmt
+jump_code g known t computed = tree_code g known (base g) t ++ stmt.Set (int.Local (line_place g)) (operand g (base g) t) ∷ []
+jump_code g known t _ = []
+
+-- the steps of a line without what follows them
+abbrev pub work_code : Site → List ℕ → List Effect → List CStmt
+work_code g known [] = []
+work_code g known (Branch t ∷ xs) = jump_code g known t (lead (the_routine g) t)
+work_code g known (x ∷ xs) = step_code g known x ++ work_code g (known_behind known x) xs
 
 abbrev pub known_through : List ℕ → List Effect → List ℕ
 known_through known [] = known
@@ -300,20 +297,6 @@ branches [] = false
 branches (x ∷ xs) = is_branch x || branches xs
 
 -- ---- Lines
-
--- the location, and the steps
-abbrev pub line_code : Site → List ℕ → ℕ → List Effect → List CStmt
-line_code g known l xs = stmt.At (the_routine g).header.title (pos l) ∷ steps_code g known xs
-
-abbrev mutual
-  -- The lines from number l on: up to a branch, to the next line that has an arm, or to the function's end. Where they are
-  -- only gone through to line l, it is left to its arm, if it has one.
-  pub lines_code : Site → List ℕ → Bool → ℕ → List (List Effect) → List CStmt
-  lines_code g known through l [] = leave_code g
-  lines_code g known through l ([] ∷ xs) = lines_code g known through (l + 1) xs
-  lines_code g known through l ((x ∷ more) ∷ xs) =
-      if through && is_entry (the_routine g) l then go_to g l
-      else line_code g known l (x ∷ more) ++ (if branches (x ∷ more) then [] else lines_code g (known_through known (x ∷ more)) true (l + 1) xs)
 
 -- the names that have a value where an arm begins
 abbrev pub first_known : Site → List ℕ
@@ -328,18 +311,6 @@ is_line_test g l = expr.Bin op.Equal (local (line_place g)) (expr.Lit (pos l))
 abbrev pub lead_code : Site → Lead → List CStmt
 lead_code g (to l) = go_to g l
 lead_code g _ = leave_code g
-
--- A segment is a loop of its own, which a branch to its first line does not leave; an empty line leads on at once.
-abbrev pub arm_code : Site → ℕ → List (List Effect) → List CStmt
-arm_code g l [] = []
-arm_code g l ([] ∷ xs) = lead_code g (lead_at (landing (l + 1) xs))
-arm_code g l (x ∷ xs) = stmt.While (is_line_test g l) (lines_code g (entry_known g l) false l (x ∷ xs)) ∷ []
-
-abbrev pub arms : Site → ℕ → List (List Effect) → List Arm
-arms g l [] = []
-arms g l (x ∷ xs) =
-    if is_entry (the_routine g) l then record { value = pos l; body = arm_code g l (x ∷ xs) } ∷ arms g (l + 1) xs
-    else arms g (l + 1) xs
 
 -- ---- Functions
 
@@ -374,17 +345,6 @@ enter_by g false =
 abbrev pub enter_code : Site → List CStmt
 enter_code g = enter_by g g.first
 
-abbrev pub loop_code : Site → CStmt
-loop_code g = stmt.While (expr.Lit (pos 1)) (stmt.Switch (int.Local (line_place g)) (arms g 1 (the_routine g).steps) (leave_code g) ∷ [])
-
--- a function without branches to lines is its lines one after the other
-abbrev pub run_code : Site → Bool → List CStmt
-run_code g true = go_to g (first_line (the_routine g)) ++ loop_code g ∷ []
-run_code g false = lines_code g (first_known g) false 1 (the_routine g).steps
-
-abbrev pub body_code : Site → List CStmt
-body_code g = enter_code g ++ run_code g (lines_loop (the_routine g) (the_routine g).steps)
-
 -- how many variables the trees of a step take
 abbrev pub step_width : Effect → ℕ
 step_width (Keep k t) = width t
@@ -401,22 +361,7 @@ abbrev pub lines_width : List (List Effect) → ℕ
 lines_width [] = 0
 lines_width (x ∷ xs) = max (steps_width x) (lines_width xs)
 
-abbrev pub function_code : Site → CFunction
-function_code g = record { ints = base g + lines_width (the_routine g).steps; bufs = 0; body = body_code g }
-
--- ---- Programs
+-- ---- Functions of a program
 
 abbrev pub site_at : Layout → PlainCore → Bool → ℕ → Site
 site_at y p first j = record { program = p; layout = y; number = j; first = first }
-
-abbrev pub called_code : Layout → PlainCore → ℕ → CFunction
-called_code y p j = function_code (site_at y p false j)
-
--- the function with which the run begins, and then those that are called
-abbrev pub program_code : Layout → PlainCore → CProgram
-program_code y p = record {
-  tables = [];
-  ints = global_ints y;
-  bufs = 0;
-  functions = function_code (site_at y p true (unwrap_or p.start 0)) ∷ map (called_code y p) y.called;
-}

@@ -5,7 +5,12 @@ pub mod Sound
 pub mod Layouts
 pub mod Emitted
 pub mod Laid
+pub mod Relation
+pub mod Codes
+pub mod Owners
+pub mod Homes
 pub mod Made
 pub mod Writing
+pub mod Added
 pub mod Flows
 pub mod Sparing

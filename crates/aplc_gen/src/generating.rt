@@ -1,10 +1,12 @@
 //! The functions of a C program, one for MAIN and one for each that is called.
 //! They must not know what a line does.
 
-ghost use Rattle.std.specs.Prelude.{◌≡◌, ◌+◌, ◌<◌, ◌≤◌, ◌∷◌, [], Some, true, false, pos, IfOk, OnOk, length, map, All, ℕ};
+ghost use Rattle.std.specs.Prelude.{◌≡◌, ◌+◌, ◌<◌, ◌≤◌, ◌^◌, [], true, false, IfOk, OnOk, length};
 ghost use Rattle.aplc_names.specs.Scopes.{start_of};
-ghost use Rattle.aplc_gen.specs.Layouts.{the_routine, the_frame, frame_of, routine_at, local_value};
-ghost use Rattle.aplc_gen.specs.Emitted.{clear_code, take_code, enter_by, enter_code, leave_code, loop_code, run_code, body_code, function_code, called_code, program_code, site_at, lines_loop};
+ghost use Rattle.aplc_gen.specs.Layouts.{the_routine, the_frame, frame_of, routine_at, local_value, base};
+ghost use Rattle.aplc_gen.specs.Emitted.{lines_width, clear_code, take_code, enter_by, enter_code, leave_code, site_at};
+ghost use Rattle.aplc_gen.specs.Codes.{IsFunction, IsProgramOf};
+ghost use Rattle.aplc_gen.specs.Added.{AddsLoop, AddsRun, AddsBody, AreFunctions};
 ghost use Rattle.aplc_gen.specs.Writing.{added, site_of, slots_at, fits_lines, lowered_core, FitsProgram};
 
 use crate::expressions::{block, emit_flag};
@@ -82,21 +84,23 @@ fn leaving(alloc: Global, b: &mut Builder, site: &Site) -> Result<Items<CStmt>, 
 
 /// The loop over the lines that have arms.
 fn emit_loop(alloc: Global, b: &mut Builder, flow: &Flow) -> Result<(), AllocError>
-    requires { fits_lines (slots_at flow.now) (the_routine (site_of flow.now)).steps ≡ true }
-    ensures { OnOk result (b.new ≡ added (loop_code (site_of flow.now) ∷ []) b.old) }
+    requires fits { fits_lines (slots_at flow.now) (the_routine (site_of flow.now)).steps ≡ true }
+    requires room { base (site_of flow.now) + lines_width (the_routine (site_of flow.now)).steps ≤ b.old.ints }
+    ensures { OnOk result (AddsLoop (site_of flow.now) b.old b.new) }
 {
+    let site = flow.site();
     let arms = all_arms(alloc, b, flow)?;
-    let out = leaving(alloc, b, flow.site())?;
-    let line = Int::Local(flow.site().line_place());
+    let out = leaving(alloc, b, site)?;
+    let line = Int::Local(site.line_place());
     let turn = block(alloc, CStmt::Switch(line, arms, out))?;
     b.emit(CStmt::While(CExpr::Lit(1), turn))
 }
 
 /// The lines. Without branches to lines they are one after the other.
-#[tactic(auto, using(crate::proofs::Adding::steps_added))]
 fn emit_run(alloc: Global, b: &mut Builder, flow: &Flow) -> Result<(), AllocError>
-    requires { fits_lines (slots_at flow.now) (the_routine (site_of flow.now)).steps ≡ true }
-    ensures { OnOk result (b.new ≡ added (run_code (site_of flow.now) (lines_loop (the_routine (site_of flow.now)) (the_routine (site_of flow.now)).steps)) b.old) }
+    requires fits { fits_lines (slots_at flow.now) (the_routine (site_of flow.now)).steps ≡ true }
+    requires room { base (site_of flow.now) + lines_width (the_routine (site_of flow.now)).steps ≤ b.old.ints }
+    ensures { OnOk result (AddsRun (site_of flow.now) b.old b.new) }
 {
     if flow.loops() {
         emit_go_to(b, flow.site(), flow.landing(1))?;
@@ -106,36 +110,49 @@ fn emit_run(alloc: Global, b: &mut Builder, flow: &Flow) -> Result<(), AllocErro
     emit_lines(alloc, b, flow, &mut known, 0)
 }
 
-#[tactic(auto, using(crate::proofs::Adding::steps_added))]
+/// The way in, and the lines.
 fn emit_body(alloc: Global, b: &mut Builder, flow: &Flow) -> Result<(), AllocError>
-    requires { fits_lines (slots_at flow.now) (the_routine (site_of flow.now)).steps ≡ true }
-    ensures { OnOk result (b.new ≡ added (body_code (site_of flow.now)) b.old) }
+    requires fits { fits_lines (slots_at flow.now) (the_routine (site_of flow.now)).steps ≡ true }
+    requires room { base (site_of flow.now) + lines_width (the_routine (site_of flow.now)).steps ≤ b.old.ints }
+    ensures { OnOk result (AddsBody (site_of flow.now) b.old b.new) }
 {
     emit_enter(alloc, b, flow.site())?;
     emit_run(alloc, b, flow)
 }
 
-/// The C function of a function.
+/// Gives the function so many variables.
+fn reserve(b: &mut Builder, count: u32) -> Result<(), AllocError>
+    ensures { OnOk result (b.new ≡ record b.old { ints = b.old.ints + count }) }
+{
+    for _given in 0..count {
+        b.fresh_int()?;
+    }
+    Ok(())
+}
+
+/// The function that was built. Its counts of variables have 32 bits.
+fn finished(b: Builder) -> CFunction
+    requires { b.outer ≡ [] }
+    ensures function { result ≡ record { ints = b.ints; bufs = b.bufs; body = b.inner } }
+    ensures few { (result.ints < 2 ^ 32) × (result.bufs < 2 ^ 32) }
+{
+    let CFunction { ints, bufs, body } = b.finish();
+    CFunction { ints, bufs, body }
+}
+
+/// The C function of a function. Its first variables are those of its frame.
 fn function(alloc: Global, flow: &Flow) -> Result<CFunction, AllocError>
     requires { fits_lines (slots_at flow.now) (the_routine (site_of flow.now)).steps ≡ true }
-    ensures { IfOk result (λ c. c ≡ function_code (site_of flow.now)) }
+    ensures { IfOk result (λ c. IsFunction (site_of flow.now) c) }
 {
+    let site = flow.site();
     let mut b = Builder::new(alloc);
+    reserve(&mut b, site.base() + lines_width(site))?;
     emit_body(alloc, &mut b, flow)?;
-    let CFunction {
-        ints: _,
-        bufs: _,
-        body,
-    } = b.finish();
-    Ok(CFunction {
-        ints: flow.site().base() + lines_width(flow.site()),
-        bufs: 0,
-        body,
-    })
+    Ok(finished(b))
 }
 
 /// The C function of the function of this number.
-#[tactic(auto, using(crate::proofs::Listed::frames))]
 fn numbered(
     alloc: Global,
     core: &CoreProgram,
@@ -145,15 +162,11 @@ fn numbered(
 ) -> Result<CFunction, AllocError>
     requires function { number < length core.now.program.functions }
     requires fits { FitsProgram layout.now core.now }
-    ensures { IfOk result (λ c. c ≡ function_code (site_at layout.now (lowered_core core.now) first number)) }
+    ensures { IfOk result (λ c. IsFunction (site_at layout.now (lowered_core core.now) first number) c) }
 {
-    match layout.frame(number) {
-        None => unreachable!(),
-        Some(frame) => {
-            let flow = Flow::new(alloc, core, layout, frame, number, first)?;
-            function(alloc, &flow)
-        }
-    }
+    let frame = layout.frame_of(number);
+    let flow = Flow::new(alloc, core, layout, frame, number, first)?;
+    function(alloc, &flow)
 }
 
 /// The C functions: the one with which the run begins, and then those that are called.
@@ -164,7 +177,7 @@ fn functions(
     layout: &Layout,
 ) -> Result<Vec<CFunction>, AllocError>
     requires fits { FitsProgram layout.now core.now }
-    ensures { IfOk result (λ v. v.items ≡ (program_code layout.now (lowered_core core.now)).functions) }
+    ensures { IfOk result (λ v. AreFunctions layout.now (lowered_core core.now) v.items) }
 {
     let main = numbered(alloc, core, layout, true, core.bound().start())?;
     let mut functions = vec![in alloc; main]?;
@@ -183,7 +196,7 @@ fn functions(
 /// The C program of a lowered program with these variables.
 pub fn build(alloc: Global, core: &CoreProgram, layout: &Layout) -> Result<CProgram, AllocError>
     requires fits { FitsProgram layout.now core.now }
-    ensures { IfOk result (λ c. c ≡ program_code layout.now (lowered_core core.now)) }
+    ensures { IfOk result (λ c. IsProgramOf layout.now (lowered_core core.now) c) }
 {
     let code = functions(alloc, core, layout)?;
     Ok(CProgram {

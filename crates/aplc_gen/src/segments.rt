@@ -2,9 +2,10 @@
 //! They must not know what a step does.
 
 ghost use Rattle.std.specs.Prelude.{◌≡◌, ◌+◌, ◌<◌, ◌≤◌, ◌&&◌, false, true, IfOk, OnOk, length, pos, drop};
-ghost use Rattle.aplc_gen.specs.Layouts.{the_routine};
-ghost use Rattle.aplc_gen.specs.Emitted.{lines_code, is_entry, first_known, entry_known, is_line_test, arm_code, arms};
-ghost use Rattle.aplc_gen.specs.Writing.{added, site_of, slots_at, fits_lines};
+ghost use Rattle.aplc_gen.specs.Layouts.{the_routine, base};
+ghost use Rattle.aplc_gen.specs.Emitted.{lines_width, is_entry, first_known, entry_known, is_line_test};
+ghost use Rattle.aplc_gen.specs.Added.{AddsLines, AddsArm, IsSegment, IsLineArm, HasArms};
+ghost use Rattle.aplc_gen.specs.Writing.{site_of, slots_at, fits_lines};
 
 use crate::flow::Flow;
 use crate::known::Known;
@@ -34,7 +35,8 @@ pub fn emit_lines(
 ) -> Result<(), AllocError>
     requires from { from ≤ length (the_routine (site_of flow.now)).steps }
     requires fits { fits_lines (slots_at flow.now) (the_routine (site_of flow.now)).steps ≡ true }
-    ensures { OnOk result (b.new ≡ added (lines_code (site_of flow.now) known.old false (from + 1) (drop from (the_routine (site_of flow.now)).steps)) b.old) }
+    requires room { base (site_of flow.now) + lines_width (the_routine (site_of flow.now)).steps ≤ b.old.ints }
+    ensures { OnOk result (AddsLines (site_of flow.now) known.old false (from + 1) (drop from (the_routine (site_of flow.now)).steps) b.old b.new) }
 {
     let site = flow.site();
     let mut through = false;
@@ -96,8 +98,8 @@ fn segment(alloc: Global, b: &mut Builder, flow: &Flow, index: usize) -> Result<
     requires inside { index < length (the_routine (site_of flow.now)).steps }
     requires few { length (the_routine (site_of flow.now)).steps ≤ 999 }
     requires fits { fits_lines (slots_at flow.now) (the_routine (site_of flow.now)).steps ≡ true }
-    ensures code { IfOk result (λ s. s ≡ CStmt.While (is_line_test (site_of flow.now) (index + 1)) (lines_code (site_of flow.now) (entry_known (site_of flow.now) (index + 1)) false (index + 1) (drop index (the_routine (site_of flow.now)).steps))) }
-    ensures same { OnOk result (b.new ≡ b.old) }
+    requires room { base (site_of flow.now) + lines_width (the_routine (site_of flow.now)).steps ≤ b.old.ints }
+    ensures { IfOk result (λ s. IsSegment (site_of flow.now) (index + 1) (drop index (the_routine (site_of flow.now)).steps) b.old b.new s) }
 {
     let mut known = entry_known(alloc, flow, index + 1)?;
     let test = line_test(alloc, flow.site(), index + 1)?;
@@ -117,7 +119,8 @@ fn emit_arm_body(
     requires inside { index < length (the_routine (site_of flow.now)).steps }
     requires few { length (the_routine (site_of flow.now)).steps ≤ 999 }
     requires fits { fits_lines (slots_at flow.now) (the_routine (site_of flow.now)).steps ≡ true }
-    ensures { OnOk result (b.new ≡ added (arm_code (site_of flow.now) (index + 1) (drop index (the_routine (site_of flow.now)).steps)) b.old) }
+    requires room { base (site_of flow.now) + lines_width (the_routine (site_of flow.now)).steps ≤ b.old.ints }
+    ensures { OnOk result (AddsArm (site_of flow.now) (index + 1) (drop index (the_routine (site_of flow.now)).steps) b.old b.new) }
 {
     let site = flow.site();
     if is_blank(site.steps(index + 1)) {
@@ -127,29 +130,36 @@ fn emit_arm_body(
     b.emit(lines)
 }
 
+/// The arm of line number `index + 1` with this body.
+fn arm_with(index: usize, body: Items<CStmt>) -> Arm
+    requires { index ≤ 999 }
+    ensures { result ≡ record { value = pos (index + 1); body = body } }
+{
+    Arm {
+        value: index as i64 + 1,
+        body,
+    }
+}
+
 /// The arm of line number `index + 1`.
 fn line_arm(alloc: Global, b: &mut Builder, flow: &Flow, index: usize) -> Result<Arm, AllocError>
     requires inside { index < length (the_routine (site_of flow.now)).steps }
     requires few { length (the_routine (site_of flow.now)).steps ≤ 999 }
     requires fits { fits_lines (slots_at flow.now) (the_routine (site_of flow.now)).steps ≡ true }
-    ensures arm { IfOk result (λ a. a ≡ record { value = pos (index + 1); body = arm_code (site_of flow.now) (index + 1) (drop index (the_routine (site_of flow.now)).steps) }) }
-    ensures same { OnOk result (b.new ≡ b.old) }
+    requires room { base (site_of flow.now) + lines_width (the_routine (site_of flow.now)).steps ≤ b.old.ints }
+    ensures { IfOk result (λ a. IsLineArm (site_of flow.now) (index + 1) (drop index (the_routine (site_of flow.now)).steps) b.old b.new a) }
 {
     b.open()?;
     emit_arm_body(alloc, b, flow, index)?;
     let body = b.close();
-    Ok(Arm {
-        value: index as i64 + 1,
-        body,
-    })
+    Ok(arm_with(index, body))
 }
 
 /// The arms of a function's switch.
-#[tactic(auto, using(crate::proofs::Arms::arms_over))]
 pub fn all_arms(alloc: Global, b: &mut Builder, flow: &Flow) -> Result<Items<Arm>, AllocError>
-    requires { fits_lines (slots_at flow.now) (the_routine (site_of flow.now)).steps ≡ true }
-    ensures arms { IfOk result (λ a. a ≡ arms (site_of flow.now) 1 (the_routine (site_of flow.now)).steps) }
-    ensures same { OnOk result (b.new ≡ b.old) }
+    requires fits { fits_lines (slots_at flow.now) (the_routine (site_of flow.now)).steps ≡ true }
+    requires room { base (site_of flow.now) + lines_width (the_routine (site_of flow.now)).steps ≤ b.old.ints }
+    ensures { IfOk result (λ a. HasArms (site_of flow.now) 1 (the_routine (site_of flow.now)).steps b.old b.new a) }
 {
     let mut arms = Items::new(alloc);
     for index in 0..flow.site().lines() {

@@ -5,7 +5,9 @@ ghost use Rattle.std.specs.Prelude.{◌≡◌, ◌+◌, ◌<◌, ◌≤◌, ◌�
 ghost use Rattle.aplc_core.specs.PlainSteps.{term_of, effect_of};
 ghost use Rattle.aplc_names.specs.Eager.{function_of};
 ghost use Rattle.aplc_gen.specs.Layouts.{the_routine, base};
-ghost use Rattle.aplc_gen.specs.Emitted.{computed, scope_at, operand, tree_code, go_to, not_known, store_code, display_code, branch_code, step_code, steps_code, known_after, known_behind, known_through, is_branch, branches, line_code, lead, lead_code};
+ghost use Rattle.aplc_gen.specs.Emitted.{computed, scope_at, operand, tree_code, go_to, not_known, store_code, display_code, jump_code, step_code, work_code, steps_width, known_after, known_behind, known_through, is_branch, branches, lead, lead_code};
+ghost use Rattle.aplc_gen.specs.Codes.{ending, exit_code, end_code};
+ghost use Rattle.aplc_gen.specs.Added.{AddsLine};
 ghost use Rattle.aplc_gen.specs.Writing.{added, site_of, slots_at, fits_tree, fits_step, fits_steps};
 ghost use Rattle.aplc_gen.specs.Flows.{lead_of, is_blank};
 
@@ -93,13 +95,15 @@ fn emit_computed(
     tree: &Tree,
 ) -> Result<(), AllocError>
     requires { fits_tree (slots_at site.now) (term_of tree.now) ≡ true }
-    ensures { OnOk result (b.new ≡ added (branch_code (site_of site.now) known.old (term_of tree.now) computed) b.old) }
+    ensures { OnOk result (b.new ≡ added (jump_code (site_of site.now) known.old (term_of tree.now) computed) b.old) }
 {
     let value = emit_value(alloc, b, site, known, tree)?;
     b.emit(CStmt::Set(Int::Local(site.line_place()), value))
 }
 
-fn emit_branch(
+/// The tree of a branch, where the code does not say where it leads.
+#[tactic(auto, using(crate::proofs::Adding::nothing_added))]
+fn emit_jump(
     alloc: Global,
     b: &mut Builder,
     flow: &Flow,
@@ -107,12 +111,23 @@ fn emit_branch(
     tree: &Tree,
 ) -> Result<(), AllocError>
     requires { fits_tree (slots_at flow.now) (term_of tree.now) ≡ true }
-    ensures { OnOk result (b.new ≡ added (branch_code (site_of flow.now) known.old (term_of tree.now) (lead (the_routine (site_of flow.now)) (term_of tree.now))) b.old) }
+    ensures { OnOk result (b.new ≡ added (jump_code (site_of flow.now) known.old (term_of tree.now) (lead (the_routine (site_of flow.now)) (term_of tree.now))) b.old) }
 {
     match flow.lead(tree) {
-        Lead::Out => emit_leave(alloc, b, flow.site()),
-        Lead::Line(line) => emit_go_to(b, flow.site(), line),
         Lead::Computed => emit_computed(alloc, b, flow.site(), known, tree),
+        _ => Ok(()),
+    }
+}
+
+/// The way to where a branch leads. A computed one has its number by then.
+#[tactic(auto, using(crate::proofs::Adding::nothing_added))]
+fn emit_exit(alloc: Global, b: &mut Builder, site: &Site, lead: Lead) -> Result<(), AllocError>
+    ensures { OnOk result (b.new ≡ added (exit_code (site_of site.now) (lead_of lead)) b.old) }
+{
+    match lead {
+        Lead::Out => emit_leave(alloc, b, site),
+        Lead::Line(line) => emit_go_to(b, site, line),
+        Lead::Computed => Ok(()),
     }
 }
 
@@ -196,7 +211,7 @@ pub fn branches(steps: &[Step]) -> bool
     false
 }
 
-/// The code of the steps of a line. A branch ends it.
+/// The code of the steps of a line. Behind a branch there are none.
 #[tactic(auto, using(crate::proofs::StepsWritten::steps_left))]
 fn emit_steps(
     alloc: Global,
@@ -206,13 +221,27 @@ fn emit_steps(
     steps: &[Step],
 ) -> Result<(), AllocError>
     requires { fits_steps (slots_at flow.now) (map effect_of steps.now) ≡ true }
-    ensures code { OnOk result (b.new ≡ added (steps_code (site_of flow.now) known.old (map effect_of steps.now)) b.old) }
+    ensures code { OnOk result (b.new ≡ added (work_code (site_of flow.now) known.old (map effect_of steps.now)) b.old) }
     ensures known { OnOk result (branches (map effect_of steps.now) ≡ false → known.new ≡ known_through known.old (map effect_of steps.now)) }
 {
     for step in steps {
         match step {
-            Step::Branch(tree) => return emit_branch(alloc, b, flow, known, tree),
+            Step::Branch(tree) => return emit_jump(alloc, b, flow, known, tree),
             _ => emit_step(alloc, b, flow.site(), known, step)?,
+        }
+    }
+    Ok(())
+}
+
+/// What follows the steps of a line: the way to where its branch leads.
+#[tactic(auto, using(crate::proofs::StepsWritten::end_left))]
+fn emit_end(alloc: Global, b: &mut Builder, flow: &Flow, steps: &[Step]) -> Result<(), AllocError>
+    ensures { OnOk result (b.new ≡ added (end_code (site_of flow.now) (ending (map effect_of steps.now))) b.old) }
+{
+    for step in steps {
+        match step {
+            Step::Branch(tree) => return emit_exit(alloc, b, flow.site(), flow.lead(tree)),
+            _ => (),
         }
     }
     Ok(())
@@ -225,8 +254,7 @@ fn emit_location(alloc: Global, b: &mut Builder, site: &Site, line: u32) -> Resu
     b.emit(CStmt::At(title, i64::from(line)))
 }
 
-/// The code of line number `line`: the location, and its steps.
-#[tactic(auto, using(crate::proofs::Adding::added_after))]
+/// The code of line number `line`, which has steps: the location, the steps and what follows them.
 pub fn emit_line(
     alloc: Global,
     b: &mut Builder,
@@ -235,10 +263,13 @@ pub fn emit_line(
     line: u32,
     steps: &[Step],
 ) -> Result<(), AllocError>
-    requires { fits_steps (slots_at flow.now) (map effect_of steps.now) ≡ true }
-    ensures code { OnOk result (b.new ≡ added (line_code (site_of flow.now) known.old line (map effect_of steps.now)) b.old) }
+    requires some { is_blank (map effect_of steps.now) ≡ false }
+    requires fits { fits_steps (slots_at flow.now) (map effect_of steps.now) ≡ true }
+    requires room { base (site_of flow.now) + steps_width (map effect_of steps.now) ≤ b.old.ints }
+    ensures line { OnOk result (AddsLine (site_of flow.now) known.old line (map effect_of steps.now) b.old b.new) }
     ensures known { OnOk result (branches (map effect_of steps.now) ≡ false → known.new ≡ known_through known.old (map effect_of steps.now)) }
 {
     emit_location(alloc, b, flow.site(), line)?;
-    emit_steps(alloc, b, flow, known, steps)
+    emit_steps(alloc, b, flow, known, steps)?;
+    emit_end(alloc, b, flow, steps)
 }

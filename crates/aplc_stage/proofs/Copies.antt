@@ -1,21 +1,18 @@
 -- Copies of values that stand in memory.
-use Rattle.std.proofs.Common.{◌≡◌, ℕ, ◌+◌, ◌≤◌, List, [], ◌∷◌, length, refl, sym, ap, ◌∙◌, subst, arith, ℤ}
-use Rattle.std.specs.Prelude.{Some, Result, Ok, Err, IfOk, true}
+use Rattle.std.proofs.Common.{◌≡◌, ◌+◌, ◌≤◌, List, [], length, refl, sym, ap, ◌∙◌, subst, arith, ℤ}
+use Rattle.std.specs.Prelude.{Ok, Err, IfOk, true}
 use Rattle.aplc_scalar.specs.declared.kind.Kind.{Kind}
-use Rattle.aplc_scalar.specs.declared.kind.FaultKind.{FaultKind}
 use Rattle.aplc_scalar.specs.Scalar.{in_range}
 use Rattle.aplc_arr.specs.Arrays.{Array, IsArray, at}
 use Rattle.aplc_arr.specs.Delayed.{Prepared, computed}
 use Rattle.aplc_arr.proofs.Keeping.{cell-of, ranked, keeps-whole}
 use Rattle.aplc_cprof.specs.declared.syntax.Int.{Int}
-use Rattle.aplc_cprof.specs.declared.syntax.Buf.TheVariants as buf
 use Rattle.aplc_cprof.specs.Blocks.{Blocks}
 use Rattle.aplc_cprof.specs.Machine.{State, Code}
 use Rattle.aplc_cprof.specs.Frames.{AreGiven}
 use Rattle.aplc_cprof.proofs.Paths.{Does}
 use Rattle.aplc_collect.specs.Elements.{Emits, scope_of, number_of, scalar_test, one_step}
 use Rattle.aplc_step.specs.declared.stepper.Origin.{Origin}
-use Rattle.aplc_step.specs.declared.stepper.Origin.TheVariants as origin
 use Rattle.aplc_step.specs.declared.stepper.Stepper.{Stepper}
 use Rattle.aplc_step.specs.Steppers.{stepper_test, stepper_scope}
 use Rattle.aplc_step.specs.Wholes.{MakesStepper}

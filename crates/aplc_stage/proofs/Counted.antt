@@ -1,13 +1,11 @@
 -- The number of elements, as code computes it.
 -- It must not know which array it is.
-use Rattle.std.proofs.Common.{◌≡◌, ℕ, ◌+◌, ◌*◌, ◌<◌, ◌≤◌, List, [], ◌∷◌, ◌++◌, ◌⊎◌, inl, inr, length, refl, sym, ap, ◌∙◌, subst, arith, append_assoc, true, ℤ}
+use Rattle.std.proofs.Common.{◌≡◌, ℕ, ◌+◌, ◌<◌, ◌≤◌, List, [], ◌∷◌, ◌++◌, inl, inr, length, refl, sym, ap, ◌∙◌, subst, arith, true}
 use Rattle.std.specs.Prelude.{Some, None, pos, ◌^◌, slice_index_or}
-use Rattle.aplc_scalar.specs.declared.kind.FaultKind.{FaultKind}
 use Rattle.aplc_arr.specs.Arrays.{product}
 use Rattle.aplc_cprof.specs.declared.syntax.Int.{Int}
 use Rattle.aplc_cprof.specs.declared.syntax.Int.TheVariants as int
 use Rattle.aplc_cprof.specs.declared.syntax.Op.TheVariants as op
-use Rattle.aplc_cprof.specs.declared.syntax.CExpr.{CExpr}
 use Rattle.aplc_cprof.specs.declared.syntax.CExpr.TheVariants as expr
 use Rattle.aplc_cprof.specs.declared.syntax.CStmt.{CStmt}
 use Rattle.aplc_cprof.specs.declared.syntax.CStmt.TheVariants as stmt
@@ -15,10 +13,10 @@ use Rattle.aplc_cprof.specs.Blocks.{Blocks}
 use Rattle.aplc_cprof.specs.WellFormed.{Scope, is_int, is_expr, is_stmt}
 use Rattle.aplc_cprof.specs.Machine.{State, Code, Todo, Is, read_int, or_unset, settled}
 use Rattle.aplc_cprof.specs.Frames.{IsOld, AreOld, Stays, Hold}
-use Rattle.aplc_cprof.specs.Emitted.{no_names, Grown, AreInts, IsFormed}
+use Rattle.aplc_cprof.specs.Emitted.{Grown, AreInts}
 use Rattle.aplc_cprof.proofs.Values.{value_Lit}
 use Rattle.aplc_cprof.proofs.Paths.{Does, does_then, does_weaken, does_none, does_if, does_else, read_todo}
-use Rattle.aplc_cprof.proofs.Frames.{after_set, put_at, stays_none, stays_set, stays_settled, hold_stays, are_old_more}
+use Rattle.aplc_cprof.proofs.Frames.{put_at, stays_none, stays_set, stays_settled, hold_stays}
 use Rattle.aplc_cprof.proofs.Emitted.{is_below, bin_formed, with_literal_formed, var_formed, lit_formed, one_stmt, set_formed, if_formed, grown_then, grown_emit, grown_int, grown_none}
 use Rattle.aplc_cprof.proofs.Counting.{does_set}
 use Rattle.aplc_step.specs.Wholes.{some_element}

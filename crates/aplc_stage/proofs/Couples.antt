@@ -23,13 +23,13 @@ use Rattle.aplc_collect.specs.Elements.{Test, Steps, one_step}
 use Rattle.aplc_collect.specs.Fused.{dyad_test, steps_of_two}
 use Rattle.aplc_collect.specs.Scalars.{dyad_steps, dyad_depth}
 use Rattle.aplc_step.specs.declared.stepper.Origin.{Origin}
-use Rattle.aplc_step.specs.Steppers.{origin_scope, scope_of_all, stepper_test, stepper_scope, StepsOver}
+use Rattle.aplc_step.specs.Steppers.{AreFresh, origin_scope, scope_of_all, stepper_test, stepper_scope, StepsOver}
 use Rattle.aplc_step.specs.Wholes.{whole_steps, MakesStepper}
 use Rattle.aplc_step.proofs.Addresses.{over_stays}
 use Rattle.aplc_stage.specs.declared.staged.Staged.{Staged}
 use Rattle.aplc_stage.specs.declared.staged.Staged.TheVariants as staged
 use Rattle.aplc_stage.specs.Staged.{scope_of_staged, Holds}
-use Rattle.aplc_stage.specs.Computes.{AreFresh, Computes, DyadicOf}
+use Rattle.aplc_stage.specs.Computes.{Computes, DyadicOf}
 use Rattle.aplc_stage.specs.Pieces.{locals, PlaceBeside, Beside, Kept, Extended, Conformed, Unlike, Conforms, SteppedBeside, KeepsOrExtends, Gathers}
 use Rattle.aplc_stage.proofs.Setting.{locals_old, locals_many}
 use Rattle.aplc_stage.proofs.Elements.{IsOldStaged, older, given_names, cells_few}

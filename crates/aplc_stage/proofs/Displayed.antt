@@ -1,15 +1,15 @@
 -- A value in memory that is printed.
 -- It must not know how an array is displayed.
-use Rattle.std.proofs.Common.{◌≡◌, ℕ, ◌+◌, ◌*◌, ◌≤◌, List, [], ◌∷◌, ◌++◌, length, refl, sym, ap, ◌∙◌, subst, arith, append-nil, ℤ, true}
-use Rattle.std.specs.Prelude.{Option, Some, None, Ok, pos, replicate, slice_get, slice_index_or, sum_by}
+use Rattle.std.proofs.Common.{◌≡◌, ℕ, ◌+◌, ◌*◌, ◌≤◌, List, [], ◌++◌, length, refl, sym, ap, ◌∙◌, subst, arith, append-nil, ℤ, true}
+use Rattle.std.specs.Prelude.{Option, Some, None, Ok, replicate, slice_get, sum_by}
 use Rattle.aplc_scalar.specs.declared.kind.Kind.{Kind}
 use Rattle.aplc_scalar.specs.Scalar.{in_range}
-use Rattle.aplc_arr.specs.Arrays.{Array, IsIndexOf, at, place, product}
+use Rattle.aplc_arr.specs.Arrays.{Array, at, place, product}
 use Rattle.aplc_arr.specs.Display.{shown}
 use Rattle.aplc_cprof.specs.declared.syntax.Int.{Int}
 use Rattle.aplc_cprof.specs.Blocks.{Blocks}
 use Rattle.aplc_cprof.specs.WellFormed.{Scope}
-use Rattle.aplc_cprof.specs.Machine.{State, Code, cells_of, held}
+use Rattle.aplc_cprof.specs.Machine.{State, Code, cells_of}
 use Rattle.aplc_cprof.specs.Frames.{AreGiven, Around, Stays, Unnamed}
 use Rattle.aplc_cprof.specs.Emitted.{no_names}
 use Rattle.aplc_cprof.proofs.Paths.{Does, does_then, does_weaken}
@@ -26,7 +26,7 @@ use Rattle.aplc_stage.specs.Staged.{scope_of_staged, Holds}
 use Rattle.aplc_stage.specs.Computes.{with_heap, NoFault}
 use Rattle.aplc_stage.specs.Displays.{display_steps, Displays}
 use Rattle.aplc_stage.proofs.Elements.{IsOldStaged, given_names, older, cells_in, cells_few, holds_stay, scalar_beside, cell_beside, at_is}
-use Rattle.aplc_stage.proofs.Scalars.{one_number, no_axes, scalar_is}
+use Rattle.aplc_stage.proofs.Scalars.{one_number, scalar_is}
 use Rattle.aplc_stage.proofs.Parts.{lengths_declared}
 use Rattle.aplc_stage.proofs.Leads.{hold_length}
 use Rattle.aplc_stage.proofs.Chains.{stepper_within}

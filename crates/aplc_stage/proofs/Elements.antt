@@ -1,7 +1,7 @@
 -- Elements of arrays that stand in memory, as code reads them beside a new buffer.
 -- It must not know what is made of them.
-use Rattle.std.proofs.Common.{◌≡◌, ℕ, zero, suc, ◌+◌, ◌*◌, ◌<◌, ◌≤◌, List, [], ◌∷◌, ◌++◌, length, refl, sym, ap, ◌∙◌, subst, arith, append-nil, ℤ, Bool, true, false, cond}
-use Rattle.std.specs.Prelude.{Option, Some, None, Ok, Err, pos, negsuc, ◌^◌, slice_get, slice_index_or, nat_le}
+use Rattle.std.proofs.Common.{◌≡◌, ℕ, zero, suc, ◌<◌, ◌≤◌, List, [], ◌∷◌, ◌++◌, length, refl, sym, ap, ◌∙◌, subst, arith, append-nil, ℤ, Bool, true, cond}
+use Rattle.std.specs.Prelude.{Option, Some, None, Ok, pos, negsuc, ◌^◌, slice_get, slice_index_or}
 use Rattle.std.specs.List.{AllByRecursion}
 use Rattle.std.proofs.lemmas.Bool.Decides.{nat_tests}
 use Rattle.std.proofs.lemmas.List.Elements.{recursion_from_All}
@@ -16,17 +16,16 @@ use Rattle.aplc_cprof.specs.declared.syntax.Int.TheVariants as int
 use Rattle.aplc_cprof.specs.declared.syntax.Buf.TheVariants as buf
 use Rattle.aplc_cprof.specs.Blocks.{Blocks}
 use Rattle.aplc_cprof.specs.Machine.{State, Is, read_int}
-use Rattle.aplc_cprof.specs.Frames.{AreGiven, IsOld, AreOld, IsOldBuf, Stays, Hold}
-use Rattle.aplc_cprof.specs.Emitted.{joint}
+use Rattle.aplc_cprof.specs.Frames.{AreGiven, IsOld, AreOld, Stays}
 use Rattle.aplc_cprof.proofs.Frames.{given_left, given_right, old_more, are_old_more, old_buf_more, read_stays, hold_stays}
-use Rattle.aplc_collect.specs.Elements.{scope_of, scope_of_buf, number_of, scalar_test, one_step}
+use Rattle.aplc_collect.specs.Elements.{scope_of, number_of, scalar_test}
 use Rattle.aplc_step.specs.declared.stepper.Origin.{Origin}
 use Rattle.aplc_step.specs.declared.stepper.Origin.TheVariants as origin
 use Rattle.aplc_step.specs.Steppers.{cells_at, origin_scope, scope_of_all, stepper_test, StepsOver, AreInRange}
 use Rattle.aplc_step.proofs.Addresses.{element_is, over_stays}
 use Rattle.aplc_stage.specs.declared.staged.Staged.{Staged}
 use Rattle.aplc_stage.specs.declared.staged.Staged.TheVariants as staged
-use Rattle.aplc_stage.specs.Staged.{lengths_of, scope_of_staged, HasCells, Holds}
+use Rattle.aplc_stage.specs.Staged.{scope_of_staged, Holds}
 use Rattle.aplc_stage.specs.Computes.{with_heap}
 use Rattle.aplc_stage.proofs.Heaps.{read_heap, over_heap, IsOldOrigin, cells_beside}
 

@@ -1,10 +1,9 @@
 -- Elements that go into a buffer of their own.
 -- It must not know what the elements are.
-use Rattle.std.proofs.Common.{◌≡◌, ℕ, ◌+◌, ◌*◌, ◌<◌, ◌≤◌, List, [], ◌∷◌, ◌++◌, length, drop, refl, sym, ap, ◌∙◌, subst, arith, append-nil, append_assoc, true, ℤ}
-use Rattle.std.specs.Prelude.{Option, Some, None, Ok, Err, pos, ◌^◌, slice_get, slice_set, sum_by, replicate}
+use Rattle.std.proofs.Common.{◌≡◌, ℕ, ◌+◌, ◌*◌, ◌<◌, ◌≤◌, List, [], ◌∷◌, ◌++◌, length, drop, refl, sym, ap, ◌∙◌, subst, arith, append-nil, true, ℤ}
+use Rattle.std.specs.Prelude.{Option, Some, pos, ◌^◌, slice_get, slice_set, replicate}
 use Rattle.std.proofs.lemmas.List.{length-replicate, drop_all}
-use Rattle.aplc_scalar.specs.declared.kind.FaultKind.{FaultKind}
-use Rattle.aplc_arr.specs.Arrays.{product, shape_fits, lengths_fit, count_limit}
+use Rattle.aplc_arr.specs.Arrays.{product, shape_fits, lengths_fit}
 use Rattle.aplc_arr.specs.Delayed.{Delayed}
 use Rattle.aplc_arr.proofs.Elements.{count-cells}
 use Rattle.aplc_arr.proofs.Keeping.{parts-fit, most-of}
@@ -17,19 +16,18 @@ use Rattle.aplc_cprof.specs.declared.syntax.CStmt.{CStmt}
 use Rattle.aplc_cprof.specs.declared.syntax.CStmt.TheVariants as stmt
 use Rattle.aplc_cprof.specs.Blocks.{Blocks}
 use Rattle.aplc_cprof.specs.WellFormed.{Scope, is_buf, is_expr}
-use Rattle.aplc_cprof.specs.Machine.{State, Code, Todo, Is, read_int, cells_of, put, settled}
+use Rattle.aplc_cprof.specs.Machine.{State, Code, Todo, Is, read_int, put, settled}
 use Rattle.aplc_cprof.specs.Frames.{IsOldBuf, AreOld, around_of, Stays, Hold, with_buffer}
 use Rattle.aplc_cprof.specs.Emitted.{no_names, Grown, IsFormed}
 use Rattle.aplc_cprof.proofs.Values.{value_Var}
 use Rattle.aplc_cprof.proofs.Forms.{is_Cells}
 use Rattle.aplc_cprof.proofs.Paths.{Does, does_then, does_weaken, does_Cells}
 use Rattle.aplc_cprof.proofs.Frames.{put_at, put_other, hold_stays}
-use Rattle.aplc_cprof.proofs.Emitted.{is_below, both_true, var_formed, one_stmt, stmts_append, grown_then, formed_more, within_less}
+use Rattle.aplc_cprof.proofs.Emitted.{is_below, both_true, var_formed, one_stmt, stmts_append, grown_then, within_less}
 use Rattle.aplc_cprof.proofs.Stores.{get_last}
 use Rattle.aplc_collect.specs.Elements.{Test, Steps}
-use Rattle.aplc_fill.specs.Fills.{AreShort, Stands, CellsAlone, FilledWith, FirstFault, fill_steps, fill_depth, Fills}
+use Rattle.aplc_fill.specs.Fills.{AreShort, CellsAlone, FilledWith, FirstFault, fill_steps, Fills}
 use Rattle.aplc_step.specs.declared.stepper.Origin.TheVariants as origin
-use Rattle.aplc_stage.specs.declared.staged.Staged.{Staged}
 use Rattle.aplc_stage.specs.declared.staged.Staged.TheVariants as staged
 use Rattle.aplc_stage.specs.Computes.{with_heap, Making, NoFault}
 use Rattle.aplc_stage.specs.Pieces.{Counts, StandsBeside, Gathered, FaultGathered, Gathers}

@@ -1,18 +1,17 @@
 -- The end of a value: its buffer is freed.
 -- It must not know what the value was for.
-use Rattle.std.proofs.Common.{◌≡◌, ℕ, ◌+◌, ◌<◌, ◌≤◌, List, [], ◌∷◌, ◌++◌, length, refl, sym, ap, ◌∙◌, subst, arith, true, ℤ}
-use Rattle.std.specs.Prelude.{Option, Some, None, nat_lt, slice_get, slice_set, sum_by}
-use Rattle.aplc_arr.specs.Arrays.{Array, product}
+use Rattle.std.proofs.Common.{◌≡◌, ℕ, ◌≤◌, List, [], ◌∷◌, ◌++◌, length, refl, ap, ◌∙◌, arith, true}
+use Rattle.std.specs.Prelude.{Some, None, slice_get, slice_set}
+use Rattle.aplc_arr.specs.Arrays.{Array}
 use Rattle.aplc_cprof.specs.declared.syntax.Int.{Int}
 use Rattle.aplc_cprof.specs.declared.syntax.Buf.{Buf}
 use Rattle.aplc_cprof.specs.declared.syntax.Buf.TheVariants as buf
-use Rattle.aplc_cprof.specs.declared.syntax.CStmt.{CStmt}
 use Rattle.aplc_cprof.specs.declared.syntax.CStmt.TheVariants as stmt
 use Rattle.aplc_cprof.specs.Blocks.{Blocks}
 use Rattle.aplc_cprof.specs.WellFormed.{Scope, is_buf}
-use Rattle.aplc_cprof.specs.Machine.{State, Code, Todo, cells_of, held, named_buf, settled}
-use Rattle.aplc_cprof.specs.Frames.{AreGiven, Stays, Hold}
-use Rattle.aplc_cprof.specs.Emitted.{joint, IsWithin}
+use Rattle.aplc_cprof.specs.Machine.{State, Code, Todo, named_buf}
+use Rattle.aplc_cprof.specs.Frames.{AreGiven, Stays}
+use Rattle.aplc_cprof.specs.Emitted.{IsWithin}
 use Rattle.aplc_cprof.proofs.Forms.{is_Free}
 use Rattle.aplc_cprof.proofs.Paths.{Does, does_weaken, does_none, does_Free}
 use Rattle.aplc_cprof.proofs.Frames.{given_left}
@@ -21,10 +20,9 @@ use Rattle.aplc_cprof.proofs.Stores.{held_set}
 use Rattle.aplc_collect.specs.Elements.{scope_of_buf}
 use Rattle.aplc_step.specs.declared.stepper.Origin.TheVariants as origin
 use Rattle.aplc_step.specs.Steppers.{scope_of_all}
-use Rattle.aplc_stage.specs.declared.staged.Staged.{Staged}
 use Rattle.aplc_stage.specs.declared.staged.Staged.TheVariants as staged
 use Rattle.aplc_stage.specs.Staged.{scope_of_staged, Holds}
-use Rattle.aplc_stage.specs.Computes.{with_heap, cells_for, Freed, Freeing, NoFault, Frees}
+use Rattle.aplc_stage.specs.Computes.{Freed, Freeing, NoFault, Frees}
 use Rattle.aplc_stage.proofs.Heaps.{buffer_of}
 use Rattle.aplc_stage.proofs.Leads.{hold_length, some_cells}
 

@@ -1,15 +1,15 @@
 -- A state with other buffers, or with one more behind the others.
 -- It must not know what the cells are.
-use Rattle.std.proofs.Common.{◌≡◌, ℕ, zero, suc, ◌+◌, ◌<◌, ◌≤◌, List, [], ◌∷◌, ◌++◌, length, refl, sym, ap, ◌∙◌, subst, arith, append-nil, ℤ}
+use Rattle.std.proofs.Common.{◌≡◌, ℕ, suc, List, [], ◌∷◌, ◌++◌, length, refl, sym, ap, ◌∙◌, arith, append-nil, ℤ}
 use Rattle.std.specs.Prelude.{Option, Some, None, option_and_then, slice_get, slice_set, sum_by}
 use Rattle.aplc_cprof.specs.declared.syntax.Int.{Int}
 use Rattle.aplc_cprof.specs.declared.syntax.Int.TheVariants as int
 use Rattle.aplc_cprof.specs.declared.syntax.Buf.{Buf}
 use Rattle.aplc_cprof.specs.declared.syntax.Buf.TheVariants as buf
-use Rattle.aplc_cprof.specs.Machine.{State, Is, read_int, named_buf, cells_of, held}
-use Rattle.aplc_cprof.specs.Frames.{IsOld, AreOld, IsOldBuf, Stays, Hold, live, contents}
-use Rattle.aplc_cprof.proofs.Frames.{read_stays, hold_stays, named_around}
-use Rattle.aplc_cprof.proofs.Stores.{get_before, get_last, held_new}
+use Rattle.aplc_cprof.specs.Machine.{State, read_int, named_buf, cells_of}
+use Rattle.aplc_cprof.specs.Frames.{IsOldBuf, Stays, Hold, live, contents}
+use Rattle.aplc_cprof.proofs.Frames.{named_around}
+use Rattle.aplc_cprof.proofs.Stores.{get_before, held_new}
 use Rattle.aplc_step.specs.declared.stepper.Origin.{Origin}
 use Rattle.aplc_step.specs.declared.stepper.Origin.TheVariants as origin
 use Rattle.aplc_step.specs.Steppers.{cells_at, HoldInts, StepsOver}

@@ -1,10 +1,10 @@
 -- Code after code that leaves all as it was and after which more is known, up to the elements of a new array.
 -- It must not know what is computed.
-use Rattle.std.proofs.Common.{◌≡◌, ℕ, suc, ◌+◌, ◌*◌, ◌<◌, ◌≤◌, List, [], ◌∷◌, ◌++◌, length, refl, sym, ap, ◌∙◌, subst, arith, true, ℤ}
+use Rattle.std.proofs.Common.{◌≡◌, ℕ, suc, ◌+◌, ◌*◌, ◌≤◌, List, [], ◌∷◌, ◌++◌, length, refl, sym, ap, ◌∙◌, subst, arith, true, ℤ}
 use Rattle.std.specs.Prelude.{Option, Some, Result, Ok, Err, IfOk, option_and_then, slice_get, sum_by}
 use Rattle.std.proofs.Math.Nat.{mul-le-mul_left}
 use Rattle.aplc_scalar.specs.declared.kind.FaultKind.{FaultKind}
-use Rattle.aplc_arr.specs.Arrays.{Array, IsArray, product, shape_fits}
+use Rattle.aplc_arr.specs.Arrays.{IsArray, product, shape_fits}
 use Rattle.aplc_arr.specs.Delayed.{Delayed, Prepared, computed, with_cells}
 use Rattle.aplc_arr.proofs.Elements.{count-cells}
 use Rattle.aplc_cprof.specs.declared.syntax.Int.{Int}
@@ -24,7 +24,7 @@ use Rattle.aplc_step.specs.declared.stepper.Origin.TheVariants as origin
 use Rattle.aplc_step.specs.Steppers.{AreFresh}
 use Rattle.aplc_stage.specs.declared.staged.Staged.{Staged}
 use Rattle.aplc_stage.specs.declared.staged.Staged.TheVariants as staged
-use Rattle.aplc_stage.specs.Computes.{with_heap, Making, cells_for, Made, IsNew, most_steps, shape_steps, code_depth, Comes, Faults, Computes, cells_of_prepared}
+use Rattle.aplc_stage.specs.Computes.{with_heap, Making, cells_for, Made, most_steps, shape_steps, code_depth, Comes, Faults, Computes, cells_of_prepared}
 use Rattle.aplc_stage.specs.Pieces.{StandsBeside, Gathered, FaultGathered, Gathers}
 use Rattle.aplc_stage.proofs.Heaps.{hold_heap, none_made}
 

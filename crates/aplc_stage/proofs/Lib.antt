@@ -10,13 +10,12 @@ pub mod Leads
 pub mod Elements
 pub mod Scalars
 pub mod Parts
+pub mod Commons
+pub mod Pairs
 pub mod Chains
 pub mod Ones
 pub mod Monadics
 pub mod Copies
-pub mod Commons
-pub mod Pairs
-pub mod Chains
 pub mod Dyadics
 pub mod Besides
 pub mod Couples

@@ -1,43 +1,36 @@
 -- Scalar functions of one argument on values in memory.
-use Rattle.std.proofs.Common.{◌≡◌, ℕ, ◌+◌, ◌*◌, ◌<◌, ◌≤◌, List, [], ◌∷◌, ◌++◌, length, refl, sym, ap, ◌∙◌, subst, arith, ℤ, Bool, true, false}
-use Rattle.std.specs.Prelude.{Some, Result, Ok, Err, IfOk, max, ◌&&◌, ◌^◌}
-use Rattle.aplc_scalar.specs.declared.kind.Kind.{Kind}
+use Rattle.std.proofs.Common.{◌≡◌, ◌+◌, ◌≤◌, List, [], length, refl, sym, ap, ◌∙◌, subst, arith, ℤ, Bool, true, false}
+use Rattle.std.specs.Prelude.{Ok, Err, IfOk, max, ◌&&◌}
 use Rattle.aplc_scalar.specs.declared.kind.Kind.TheVariants.{Num}
-use Rattle.aplc_scalar.specs.declared.kind.FaultKind.{FaultKind}
 use Rattle.aplc_scalar.specs.declared.kind.FaultKind.TheVariants.{Domain}
 use Rattle.aplc_scalar.specs.declared.function.ScalarFn.{ScalarFn}
 use Rattle.aplc_scalar.specs.Scalar.{Given, IsInRange, monadic, is_monadic}
-use Rattle.aplc_arr.specs.Arrays.{Array, IsArray, IsIndexOf, at, place, is_numbers, product, shape_fits, kind_eq}
-use Rattle.aplc_arr.specs.Delayed.{Delayed, Prepared, delayed, needs, computed}
+use Rattle.aplc_arr.specs.Arrays.{Array, IsArray, at, is_numbers, kind_eq}
+use Rattle.aplc_arr.specs.Delayed.{Delayed, Prepared, needs, computed}
 use Rattle.aplc_arr.specs.Each.{each_monadic}
 use Rattle.aplc_arr.proofs.KeepsEach.{keeps-each_monadic}
 use Rattle.aplc_cprof.specs.declared.syntax.Int.{Int}
-use Rattle.aplc_cprof.specs.declared.syntax.Buf.TheVariants as buf
 use Rattle.aplc_cprof.specs.Blocks.{Blocks}
-use Rattle.aplc_cprof.specs.WellFormed.{Scope}
 use Rattle.aplc_cprof.specs.Machine.{State, Code}
-use Rattle.aplc_cprof.specs.Frames.{AreGiven, AreOld, Stays, Hold}
-use Rattle.aplc_cprof.specs.Emitted.{no_names, IsWithin}
-use Rattle.aplc_cprof.proofs.Paths.{Does, does_weaken}
-use Rattle.aplc_cprof.proofs.Frames.{hold_stays}
+use Rattle.aplc_cprof.specs.Frames.{AreGiven}
+use Rattle.aplc_cprof.specs.Emitted.{no_names}
+use Rattle.aplc_cprof.proofs.Paths.{Does}
 use Rattle.aplc_cprof.proofs.Emitted.{within_less}
-use Rattle.aplc_collect.specs.Elements.{Test, Steps, scope_of, one_step}
+use Rattle.aplc_collect.specs.Elements.{scope_of, one_step}
 use Rattle.aplc_collect.specs.Scalars.{EmitsMono, mono_steps, mono_depth}
 use Rattle.aplc_collect.specs.Fused.{mono_test, steps_of_one, where_one}
 use Rattle.aplc_step.specs.declared.stepper.Origin.{Origin}
-use Rattle.aplc_step.specs.declared.stepper.Origin.TheVariants as origin
 use Rattle.aplc_step.specs.declared.stepper.Stepper.{Stepper}
-use Rattle.aplc_step.specs.Steppers.{AreFresh, stepper_test, stepper_scope, StepsOver}
-use Rattle.aplc_step.specs.Wholes.{whole_steps, MakesStepper}
+use Rattle.aplc_step.specs.Steppers.{stepper_test, stepper_scope}
+use Rattle.aplc_step.specs.Wholes.{MakesStepper}
 use Rattle.aplc_stage.specs.declared.staged.Staged.{Staged}
 use Rattle.aplc_stage.specs.declared.staged.Staged.TheVariants as staged
-use Rattle.aplc_stage.specs.Staged.{scope_of_staged, Holds}
-use Rattle.aplc_stage.specs.Computes.{Making, cells_of_prepared, most_steps, Comes, Faults, Computes, MonadicOf, NoFault}
-use Rattle.aplc_stage.specs.Pieces.{OwnLengths, StandsBeside, Gathers}
-use Rattle.aplc_stage.proofs.Setting.{locals_old, locals_many}
-use Rattle.aplc_stage.proofs.Elements.{IsOldStaged, older, given_names, cells_in, cells_few, holds_stay, cell_beside, at_is}
+use Rattle.aplc_stage.specs.Staged.{scope_of_staged}
+use Rattle.aplc_stage.specs.Computes.{Making, cells_of_prepared, most_steps, Comes, Faults, Computes, MonadicOf}
+use Rattle.aplc_stage.specs.Pieces.{OwnLengths, Gathers}
+use Rattle.aplc_stage.proofs.Elements.{cells_in}
 use Rattle.aplc_stage.proofs.Scalars.{one_number, one_given, scalar_is, scalar_runs}
-use Rattle.aplc_stage.proofs.Parts.{name_declared, lengths_declared, locals_fresh}
+use Rattle.aplc_stage.proofs.Parts.{name_declared}
 use Rattle.aplc_stage.proofs.Ones.{ArgumentOf, computes_from, one_cells}
 
 both_hold : (a b : Bool) → a ≡ true → b ≡ true → (a && b) ≡ true

@@ -1,16 +1,15 @@
 -- Elements of two arrays together: the array to come, and the code that stands for its elements.
 -- It must not know where the arrays stand.
-use Rattle.std.proofs.Common.{◌≡◌, ℕ, ◌+◌, ◌*◌, ◌<◌, ◌≤◌, List, [], ◌∷◌, ◌++◌, length, refl, sym, ap, ◌∙◌, subst, arith, ℤ, Bool, true, false}
-use Rattle.std.specs.Prelude.{Option, Some, None, Result, Ok, Err, pos, nat_eq, if◌then◌else◌, slice_index_or}
+use Rattle.std.proofs.Common.{◌≡◌, ℕ, ◌+◌, ◌*◌, ◌≤◌, List, [], ◌∷◌, ◌++◌, refl, sym, ap, ◌∙◌, subst, arith, ℤ, Bool, true, false}
+use Rattle.std.specs.Prelude.{Some, None, Ok, Err, if◌then◌else◌, slice_index_or}
 use Rattle.aplc_scalar.specs.declared.kind.Kind.{Kind}
 use Rattle.aplc_scalar.specs.declared.kind.Kind.TheVariants.{Num, Char}
-use Rattle.aplc_scalar.specs.declared.kind.FaultKind.{FaultKind}
 use Rattle.aplc_scalar.specs.declared.kind.FaultKind.TheVariants.{Domain, Rank, Length}
 use Rattle.aplc_scalar.specs.declared.function.ScalarFn.{ScalarFn}
 use Rattle.aplc_scalar.specs.declared.function.ScalarFn.TheVariants as f
-use Rattle.aplc_scalar.specs.Scalar.{Given, dyadic, is_dyadic}
-use Rattle.aplc_arr.specs.Arrays.{Array, IsArray, IsIndexOf, rank, at, place, fill, first_of, shape_eq, kind_eq, product}
-use Rattle.aplc_arr.specs.Delayed.{Delayed, Prepared, needs, computed}
+use Rattle.aplc_scalar.specs.Scalar.{dyadic, is_dyadic}
+use Rattle.aplc_arr.specs.Arrays.{Array, IsIndexOf, rank, at, place, fill, first_of, shape_eq, kind_eq, product}
+use Rattle.aplc_arr.specs.Delayed.{Delayed, needs}
 use Rattle.aplc_arr.specs.Each.{kinds_suit, ranks_suit, common_shape, extended, applied, each_pair, each_dyadic}
 use Rattle.aplc_cprof.specs.Machine.{State}
 use Rattle.aplc_cprof.specs.Frames.{Stays}
@@ -21,7 +20,6 @@ use Rattle.aplc_step.specs.Steppers.{zeros}
 use Rattle.aplc_stage.specs.Computes.{with_heap}
 use Rattle.aplc_stage.specs.Pieces.{StandsBeside, PlaceBeside, Own, First}
 use Rattle.aplc_stage.proofs.Tests.{shape_self, shapes_same}
-use Rattle.aplc_stage.proofs.Scalars.{one_number, one_given}
 
 -- ---- The array to come
 

@@ -1,19 +1,15 @@
 -- Steppers and lengths of arrays that stand in memory, as pieces of code before their elements.
 -- It must not know what is made of the elements.
-use Rattle.std.proofs.Common.{◌≡◌, ℕ, suc, ◌+◌, ◌*◌, ◌<◌, ◌≤◌, List, [], ◌∷◌, ◌++◌, length, refl, sym, ap, ◌∙◌, subst, arith, true, ℤ}
-use Rattle.std.specs.Prelude.{Some, max, nat_lt}
-use Rattle.aplc_arr.specs.Arrays.{Array, IsArray, place, product}
+use Rattle.std.proofs.Common.{◌≡◌, ℕ, ◌+◌, ◌≤◌, List, [], ◌∷◌, ◌++◌, length, refl, sym, ap, ◌∙◌, subst, arith, true}
 use Rattle.aplc_cprof.specs.declared.syntax.Int.{Int}
 use Rattle.aplc_cprof.specs.declared.syntax.Int.TheVariants as int
-use Rattle.aplc_cprof.specs.declared.syntax.CStmt.{CStmt}
 use Rattle.aplc_cprof.specs.Blocks.{Blocks}
 use Rattle.aplc_cprof.specs.WellFormed.{Scope, is_int}
-use Rattle.aplc_cprof.specs.Machine.{State, Code}
 use Rattle.aplc_cprof.specs.Frames.{AreGiven, AreOld, Stays, Hold}
-use Rattle.aplc_cprof.specs.Emitted.{joint, no_names, Grown, IsWithin, AreInts, IsFormed}
-use Rattle.aplc_cprof.proofs.Paths.{Does, does_weaken}
+use Rattle.aplc_cprof.specs.Emitted.{IsWithin, AreInts}
+use Rattle.aplc_cprof.proofs.Paths.{does_weaken}
 use Rattle.aplc_cprof.proofs.Frames.{given_left, given_right, stays_none}
-use Rattle.aplc_cprof.proofs.Emitted.{is_below, within_less, within_left, within_right}
+use Rattle.aplc_cprof.proofs.Emitted.{is_below, within_left, within_right}
 use Rattle.aplc_collect.specs.Elements.{scope_of}
 use Rattle.aplc_step.specs.Steppers.{AreFresh, origin_scope, scope_of_all}
 use Rattle.aplc_stage.specs.declared.staged.Staged.{Staged}

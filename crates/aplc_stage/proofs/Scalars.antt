@@ -1,9 +1,8 @@
 -- Results of rank 0, which are in variables.
 -- It must not know which function gives them.
-use Rattle.std.proofs.Common.{◌≡◌, ℕ, ◌+◌, ◌*◌, ◌<◌, ◌≤◌, List, [], ◌∷◌, ◌++◌, length, refl, sym, ap, ◌∙◌, subst, arith, append-nil, ℤ, true}
-use Rattle.std.specs.Prelude.{Some, Result, Ok, Err, IfOk, sum_by}
+use Rattle.std.proofs.Common.{◌≡◌, ℕ, ◌≤◌, List, [], ◌∷◌, refl, sym, ap, ◌∙◌, subst, arith, append-nil, ℤ}
+use Rattle.std.specs.Prelude.{Result, Ok, Err, IfOk, sum_by}
 use Rattle.aplc_scalar.specs.declared.kind.Kind.{Kind}
-use Rattle.aplc_scalar.specs.declared.kind.Kind.TheVariants.{Num}
 use Rattle.aplc_scalar.specs.declared.kind.FaultKind.{FaultKind}
 use Rattle.aplc_scalar.specs.Scalar.{Given}
 use Rattle.aplc_arr.specs.Arrays.{Array, IsArray}
@@ -15,8 +14,8 @@ use Rattle.aplc_cprof.specs.Frames.{Stays, Hold}
 use Rattle.aplc_cprof.proofs.Paths.{Does, does_weaken}
 use Rattle.aplc_collect.specs.Elements.{Computed, Failed, Yields}
 use Rattle.aplc_stage.specs.declared.staged.Staged.TheVariants as staged
-use Rattle.aplc_stage.specs.Staged.{HasCells, Holds}
-use Rattle.aplc_stage.specs.Computes.{with_heap, Making, Made, Comes, Faults, cells_of_prepared, most_steps}
+use Rattle.aplc_stage.specs.Staged.{Holds}
+use Rattle.aplc_stage.specs.Computes.{Making, Comes, Faults, cells_of_prepared, most_steps}
 use Rattle.aplc_stage.proofs.Heaps.{none_made}
 
 -- an array of one number without axes

@@ -1,6 +1,6 @@
 -- Variables that are set one after the other, and what they hold then.
 -- It must not know what the values are for.
-use Rattle.std.proofs.Common.{◌≡◌, ℕ, suc, ◌+◌, ◌<◌, ◌≤◌, List, [], ◌∷◌, ◌++◌, length, refl, sym, ap, ◌∙◌, subst, arith, ℤ, true}
+use Rattle.std.proofs.Common.{◌≡◌, ℕ, suc, ◌+◌, ◌≤◌, List, [], ◌∷◌, length, refl, ap, ◌∙◌, subst, arith, ℤ, true}
 use Rattle.std.specs.Prelude.{Some, pos}
 use Rattle.aplc_scalar.specs.declared.kind.FaultKind.{FaultKind}
 use Rattle.aplc_cprof.specs.declared.syntax.Int.{Int}
@@ -8,9 +8,9 @@ use Rattle.aplc_cprof.specs.declared.syntax.Int.TheVariants as int
 use Rattle.aplc_cprof.specs.declared.syntax.CExpr.TheVariants as expr
 use Rattle.aplc_cprof.specs.declared.syntax.CStmt.{CStmt}
 use Rattle.aplc_cprof.specs.declared.syntax.CStmt.TheVariants as stmt
-use Rattle.aplc_cprof.specs.WellFormed.{Scope, is_int, are_stmts}
-use Rattle.aplc_cprof.specs.Machine.{State, Code, Todo, Is, read_int, or_unset}
-use Rattle.aplc_cprof.specs.Frames.{IsOld, AreOld, Stays, Hold}
+use Rattle.aplc_cprof.specs.WellFormed.{Scope, are_stmts}
+use Rattle.aplc_cprof.specs.Machine.{State, Code, Todo, or_unset}
+use Rattle.aplc_cprof.specs.Frames.{AreOld, Stays, Hold}
 use Rattle.aplc_cprof.specs.Emitted.{AreInts}
 use Rattle.aplc_cprof.proofs.Values.{value_Var, value_Lit}
 use Rattle.aplc_cprof.proofs.Paths.{Does, does_then, does_weaken, does_none}
@@ -18,7 +18,6 @@ use Rattle.aplc_cprof.proofs.Frames.{after_set, put_at, stays_none, stays_then, 
 use Rattle.aplc_cprof.proofs.Emitted.{is_below, var_formed, lit_formed, set_formed, one_stmt}
 use Rattle.aplc_cprof.proofs.Counting.{does_set}
 use Rattle.aplc_step.specs.Steppers.{HoldInts}
-use Rattle.aplc_step.proofs.Addresses.{hold_ints_stays}
 use Rattle.aplc_stage.specs.Pieces.{locals, copies, clears}
 
 -- ---- Names

@@ -1,25 +1,23 @@
 -- The shape of two arrays together, as code finds it.
 -- It must not know what is made of their elements.
-use Rattle.std.proofs.Common.{◌≡◌, ℕ, ◌+◌, ◌<◌, ◌≤◌, List, [], ◌∷◌, ◌++◌, length, refl, sym, ap, ◌∙◌, subst, arith, Bool, true, false, ℤ}
-use Rattle.std.specs.Prelude.{Some, None, pos, nat_eq}
+use Rattle.std.proofs.Common.{◌≡◌, ℕ, ◌+◌, ◌≤◌, List, [], ◌∷◌, ◌++◌, length, refl, sym, ap, ◌∙◌, arith, Bool, true, false, ℤ}
+use Rattle.std.specs.Prelude.{Some, pos, nat_eq}
 use Rattle.aplc_scalar.specs.declared.kind.FaultKind.{FaultKind}
 use Rattle.aplc_scalar.specs.declared.kind.FaultKind.TheVariants as fault
 use Rattle.aplc_scalar.specs.Scalar.{truth, negated}
 use Rattle.aplc_arr.specs.Arrays.{product, shape_eq}
-use Rattle.aplc_arr.specs.Each.{common_of}
 use Rattle.aplc_cprof.specs.declared.syntax.Int.{Int}
 use Rattle.aplc_cprof.specs.declared.syntax.Int.TheVariants as int
 use Rattle.aplc_cprof.specs.declared.syntax.CExpr.TheVariants as expr
 use Rattle.aplc_cprof.specs.declared.syntax.CStmt.{CStmt}
 use Rattle.aplc_cprof.specs.declared.syntax.CStmt.TheVariants as stmt
-use Rattle.aplc_cprof.specs.Machine.{State, Code, Todo, Is, read_int, or_unset, settled}
+use Rattle.aplc_cprof.specs.Machine.{State, Code, Todo, Is, or_unset, settled}
 use Rattle.aplc_cprof.specs.Frames.{AreOld, Stays, Hold}
 use Rattle.aplc_cprof.proofs.Values.{value_Lit}
 use Rattle.aplc_cprof.proofs.Paths.{Does, does_then, does_weaken, does_if, does_else, does_Fault}
-use Rattle.aplc_cprof.proofs.Frames.{after_set, put_at, put_other, stays_none, stays_then, stays_set, stays_settled, hold_stays}
+use Rattle.aplc_cprof.proofs.Frames.{after_set, put_at, put_other, stays_none, stays_set, stays_settled, hold_stays}
 use Rattle.aplc_cprof.proofs.Counting.{does_set}
-use Rattle.aplc_step.proofs.Addresses.{hold_ints_stays}
-use Rattle.aplc_stage.specs.Pieces.{locals, copies, differ, all_one, takes_on, extended_block, conform_stmt, Beside, Kept, Extended, Conformed, Unlike}
+use Rattle.aplc_stage.specs.Pieces.{locals, copies, differ, all_one, takes_on, extended_block, conform_stmt, Kept, Extended, Conformed, Unlike}
 use Rattle.aplc_stage.proofs.Setting.{locals_old, wholes, as_ints, as_lengths, Took, copies_run}
 use Rattle.aplc_stage.proofs.Tests.{differ_value, all_one_value, shapes_same, shapes_other, common_is, one_element}
 

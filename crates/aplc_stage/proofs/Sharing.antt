@@ -7,7 +7,8 @@ use Rattle.aplc_cprof.specs.Blocks.{Blocks}
 use Rattle.aplc_cprof.specs.Frames.{Stays, Hold}
 use Rattle.aplc_cprof.proofs.Paths.{does_weaken}
 use Rattle.aplc_cprof.proofs.Emitted.{ints_first}
-use Rattle.aplc_stage.specs.Computes.{AreFresh, NoFault}
+use Rattle.aplc_step.specs.Steppers.{AreFresh}
+use Rattle.aplc_stage.specs.Computes.{NoFault}
 use Rattle.aplc_stage.specs.Pieces.{OwnLengths, Conformed, SharedLengths, Unlike, Conforms, Shares}
 use Rattle.aplc_stage.proofs.Setting.{locals_many}
 use Rattle.aplc_stage.proofs.Scalars.{no_axes}

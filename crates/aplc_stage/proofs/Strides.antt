@@ -1,29 +1,24 @@
 -- Strides of an array beside others, whose shape it keeps or whose one element is extended.
 -- It must not know what the elements are.
-use Rattle.std.proofs.Common.{◌≡◌, ℕ, zero, suc, ◌+◌, ◌*◌, ◌<◌, ◌≤◌, List, [], ◌∷◌, ◌++◌, length, refl, sym, ap, ◌∙◌, subst, arith, ℤ, true}
+use Rattle.std.proofs.Common.{◌≡◌, ℕ, zero, suc, ◌+◌, ◌*◌, ◌<◌, List, [], ◌∷◌, ◌++◌, length, refl, sym, ap, ◌∙◌, subst, arith, ℤ}
 use Rattle.std.specs.Prelude.{Some, pos, ◌+ℤ◌, ◌*ℤ◌}
 use Rattle.std.proofs.lemmas.Int.{ints}
-use Rattle.aplc_scalar.specs.declared.kind.FaultKind.{FaultKind}
 use Rattle.aplc_arr.specs.Arrays.{product, IsIndexOf}
 use Rattle.aplc_cprof.specs.declared.syntax.Int.{Int}
-use Rattle.aplc_cprof.specs.declared.syntax.Int.TheVariants as int
 use Rattle.aplc_cprof.specs.declared.syntax.CExpr.TheVariants as expr
 use Rattle.aplc_cprof.specs.declared.syntax.CStmt.{CStmt}
-use Rattle.aplc_cprof.specs.declared.syntax.CStmt.TheVariants as stmt
 use Rattle.aplc_cprof.specs.Blocks.{Blocks}
-use Rattle.aplc_cprof.specs.WellFormed.{Scope}
-use Rattle.aplc_cprof.specs.Machine.{State, Code, Todo, Is, read_int, settled}
+use Rattle.aplc_cprof.specs.Machine.{State, Code, Todo, settled}
 use Rattle.aplc_cprof.specs.Frames.{IsOld, AreOld, Stays, Hold}
-use Rattle.aplc_cprof.specs.Emitted.{no_names, Grown, IsFormed}
 use Rattle.aplc_cprof.proofs.Values.{value_Var}
 use Rattle.aplc_cprof.proofs.Paths.{Does, does_weaken, does_if, does_else}
 use Rattle.aplc_cprof.proofs.Frames.{stays_none, stays_settled, hold_stays, read_stays}
-use Rattle.aplc_cprof.proofs.Emitted.{var_formed, if_else_formed, one_stmt, grown_then, grown_emit}
+use Rattle.aplc_cprof.proofs.Emitted.{var_formed, if_else_formed, one_stmt}
 use Rattle.aplc_step.specs.Steppers.{address, HoldInts, AreAxes, StepsOver, zeros}
 use Rattle.aplc_step.proofs.Addresses.{address_zeros}
 use Rattle.aplc_stage.specs.Computes.{NoFault}
-use Rattle.aplc_stage.specs.Pieces.{locals, copies, clears, extend_stmt, Beside, Kept, Extended, PlaceBeside, Own, First, SteppedBeside, KeepsOrExtends}
-use Rattle.aplc_stage.proofs.Setting.{locals_declared, locals_many, nones, Took, copies_run, clears_run, copies_formed, clears_formed}
+use Rattle.aplc_stage.specs.Pieces.{locals, copies, clears, extend_stmt, Beside, Kept, Extended, Own, First, SteppedBeside, KeepsOrExtends}
+use Rattle.aplc_stage.proofs.Setting.{locals_declared, nones, Took, copies_run, clears_run, copies_formed, clears_formed}
 
 -- ---- Strides 0
 

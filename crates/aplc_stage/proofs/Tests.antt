@@ -1,7 +1,7 @@
 -- What the tests of shapes and the product of lengths come to.
 -- It must not know what hangs on them.
-use Rattle.std.proofs.Common.{◌≡◌, ℕ, zero, suc, ◌+◌, ◌*◌, ◌<◌, ◌≤◌, List, [], ◌∷◌, length, refl, sym, ap, ◌∙◌, subst, arith, ℤ, Bool, true, false, cond}
-use Rattle.std.specs.Prelude.{Some, None, pos, ◌^◌, ◌*ℤ◌, nat_eq, ◌&&◌}
+use Rattle.std.proofs.Common.{◌≡◌, ℕ, zero, suc, ◌+◌, ◌*◌, ◌<◌, ◌≤◌, List, [], ◌∷◌, length, refl, sym, ap, ◌∙◌, arith, ℤ, Bool, true, false}
+use Rattle.std.specs.Prelude.{pos, ◌^◌, ◌*ℤ◌, nat_eq, ◌&&◌}
 use Rattle.std.proofs.lemmas.Bool.Decides.{nat_tests}
 use Rattle.std.proofs.lemmas.Int.{ints}
 use Rattle.aplc_scalar.specs.Scalar.{truth, negated, int_eq}
@@ -10,12 +10,12 @@ use Rattle.aplc_arr.specs.Each.{common_of, common_shape}
 use Rattle.aplc_cprof.specs.declared.syntax.Int.{Int}
 use Rattle.aplc_cprof.specs.declared.syntax.Op.TheVariants as op
 use Rattle.aplc_cprof.specs.declared.syntax.CExpr.TheVariants as expr
-use Rattle.aplc_cprof.specs.Machine.{State, Is, apply, value, ranged, is_zero, truth_of}
+use Rattle.aplc_cprof.specs.Machine.{State, Is, apply, value, ranged, truth_of}
 use Rattle.aplc_cprof.specs.Frames.{Hold}
 use Rattle.aplc_cprof.specs.Emitted.{on_values}
-use Rattle.aplc_cprof.proofs.Values.{value_Var, value_Lit, value_Bin, ranged_below}
+use Rattle.aplc_cprof.proofs.Values.{value_Var, value_Lit, ranged_below}
 use Rattle.aplc_cprof.proofs.Counting.{bin_value, on_values_value, with_literal_value}
-use Rattle.aplc_step.proofs.Wholes.{AllSome, product_some}
+use Rattle.aplc_step.proofs.Wholes.{AllSome}
 use Rattle.aplc_stage.specs.Pieces.{product_expr, differ, all_one}
 
 -- ---- The product

@@ -7,7 +7,6 @@ use Rattle.aplc_scalar.specs.declared.function.ScalarFn.{ScalarFn}
 use Rattle.aplc_arr.specs.Arrays.{Array, product, at}
 use Rattle.aplc_arr.specs.Delayed.{Prepared, computed, moved}
 use Rattle.aplc_arr.specs.Each.{each_monadic, each_dyadic}
-use Rattle.aplc_cprof.specs.declared.syntax.Int.{Int}
 use Rattle.aplc_cprof.specs.declared.syntax.Buf.{Buf}
 use Rattle.aplc_cprof.specs.declared.syntax.Buf.TheVariants as buf
 use Rattle.aplc_cprof.specs.declared.syntax.CStmt.{CStmt}

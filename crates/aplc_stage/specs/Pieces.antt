@@ -1,11 +1,11 @@
 -- The code of the parts of a value: counts, lengths, which of two arrays is extended, and elements in a buffer of their own.
-use Rattle.std.specs.Prelude.{◌≡◌, max, ℕ, ◌+◌, ◌*◌, ◌<◌, ◌≤◌, ◌^◌, List, [], ◌∷◌, ◌++◌, length, Option, Some, None, Ok, Err, Bool, true, false, ℤ, pos}
+use Rattle.std.specs.Prelude.{◌≡◌, max, ℕ, ◌+◌, ◌*◌, ◌<◌, ◌≤◌, ◌^◌, List, [], ◌∷◌, ◌++◌, length, Some, None, Ok, Err, Bool, true, false, ℤ, pos}
 use Rattle.aplc_scalar.specs.declared.kind.FaultKind.{FaultKind}
 use Rattle.aplc_scalar.specs.declared.kind.FaultKind.TheVariants as fault
 use Rattle.aplc_scalar.specs.Scalar.{truth}
 use Rattle.aplc_scalar.specs.declared.function.ScalarFn.{ScalarFn}
 use Rattle.aplc_scalar.specs.declared.function.ScalarFn.TheVariants as f
-use Rattle.aplc_arr.specs.Arrays.{product, place, shape_fits, IsIndexOf}
+use Rattle.aplc_arr.specs.Arrays.{product, shape_fits, IsIndexOf}
 use Rattle.aplc_arr.specs.Delayed.{Delayed}
 use Rattle.aplc_arr.specs.Delayed as delay
 use Rattle.aplc_arr.specs.Each.{common_shape}
@@ -20,7 +20,7 @@ use Rattle.aplc_cprof.specs.declared.syntax.CStmt.TheVariants as stmt
 use Rattle.aplc_cprof.specs.Blocks.{Blocks}
 use Rattle.aplc_cprof.specs.WellFormed.{Scope, is_int}
 use Rattle.aplc_cprof.specs.Machine.{State, Code, Is, read_int}
-use Rattle.aplc_cprof.specs.Frames.{IsOld, AreOld, Stays, Hold}
+use Rattle.aplc_cprof.specs.Frames.{IsOld, Stays, Hold}
 use Rattle.aplc_cprof.specs.Emitted.{on_values, no_names, Grown, AreInts, IsFormed}
 use Rattle.aplc_cprof.proofs.Paths.{Does}
 use Rattle.aplc_collect.specs.Elements.{Test, Steps}

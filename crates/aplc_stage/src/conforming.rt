@@ -41,12 +41,7 @@ fn all_one(alloc: Global, lengths: &[Int]) -> Result<CExpr, AllocError>
 {
     let mut all = CExpr::Lit(1);
     for index in (0..lengths.len()).rev() {
-        let first = binary(
-            alloc,
-            Op::Equal,
-            CExpr::Var(lengths[index]),
-            CExpr::Lit(1),
-        )?;
+        let first = binary(alloc, Op::Equal, CExpr::Var(lengths[index]), CExpr::Lit(1))?;
         all = binary(alloc, Op::And, first, all)?;
     }
     Ok(all)

@@ -30,11 +30,7 @@ pub fn over(
 }
 
 /// Variables of its own for the lengths of a new array that has the shape of another one.
-pub fn own_lengths(
-    alloc: Global,
-    b: &mut Builder,
-    lengths: &[Int],
-) -> Result<List<Int>, AllocError>
+pub fn own_lengths(alloc: Global, b: &mut Builder, lengths: &[Int]) -> Result<List<Int>, AllocError>
     requires lengths { AreOld b.old.ints lengths.now }
     ensures ok { IfOk result (λ l. OwnLengths b.old b.new lengths.now l) }
     ensures kept { IsKept b.old b.new }

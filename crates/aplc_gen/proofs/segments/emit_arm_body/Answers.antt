@@ -18,4 +18,4 @@ pub returns : goal.returns
 returns c =
     let i = c.args.index in
     let x = map effect_of c.steps.result.now in
-    on_ok_weaker c.emit.result (λ e. full_arm (site_of c.args.flow.now) i x c.in_ok-lines.lines c.args.b.now c.segment.new.b c.emit.new.self c.requires.inside (line_at _ _ (i + 1) x c.site-site.ensures c.steps.ensures) (sym c.is_blank.ensures ∙ c.if-is_blank.false) c.in_ok-lines.ensures.code c.in_ok-lines.ensures.same e) c.emit.ensures.ok
+    on_ok_weaker c.emit.result (λ e. full_arm (site_of c.args.flow.now) i x c.in_ok-lines.lines c.args.b.now c.segment.new.b c.emit.new.self c.requires.inside (line_at _ _ (i + 1) x c.site-site.ensures c.steps.ensures) (sym c.is_blank.ensures ∙ c.if-is_blank.false) c.in_ok-lines.ensures e) c.emit.ensures.ok

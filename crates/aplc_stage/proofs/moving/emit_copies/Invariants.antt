@@ -1,4 +1,4 @@
-use Rattle.std.proofs.Common.{◌≡◌, ◌++◌, drop}
+use Rattle.std.proofs.Common.{◌≡◌, drop}
 use Rattle.aplc_cprof.specs.Blocks.{IsKept}
 use Rattle.aplc_stage.specs.Pieces.{with_code, copies}
 use Rattle.aplc_stage.proofs.moving.emit_copies.Given as goal

@@ -21,8 +21,8 @@ mod scalars;
 #[cfg(test)]
 mod show_tests;
 mod staged;
-#[cfg(test)]
 mod staged_cases;
+mod staged_runs;
 #[cfg(test)]
 mod staged_tests;
 
@@ -32,3 +32,4 @@ pub use formed::is_well_formed;
 pub use running::Run;
 pub use scalars::{DYADIC, MONADIC, dyad_program, dyad_runs, mono_program, mono_runs};
 pub use staged::{staged_copy, staged_dyad, staged_mono};
+pub use staged_runs::staged_programs;

@@ -45,6 +45,18 @@ pub(crate) fn axes(rank: usize) -> &'static [Int]
     }
 }
 
+/// The lengths of another array beside one of rank 3 at most, of this rank, which is at most 3.
+pub(crate) fn other_axes(rank: usize) -> &'static [Int]
+    ensures { (n : ℕ) → AreOld n result.now }
+{
+    match rank {
+        0 => &[],
+        1 => &[D],
+        2 => &[D, E],
+        _ => &[D, E, F],
+    }
+}
+
 /// Reads a line: how many elements there are, and the lengths.
 pub(crate) fn read_lengths(
     alloc: Global,

@@ -92,11 +92,11 @@ pub old_given : (x : Int) (b : Blocks) → IsOld b.ints x → AreGiven (scope_of
 old_given (int.Local k) b h = record { ints = omega (arith, h); bufs = omega arith }
 old_given (int.Global k) b h = record { ints = omega arith; bufs = omega arith }
 
-all_given : (xs : List Int) (b : Blocks) → AreOld b.ints xs → AreGiven (scope_of_all xs) b
+pub all_given : (xs : List Int) (b : Blocks) → AreOld b.ints xs → AreGiven (scope_of_all xs) b
 all_given [] b h = record { ints = omega arith; bufs = omega arith }
 all_given (x ∷ xs) b h = both_given (scope_of x) (scope_of_all xs) b (old_given x b h.0) (all_given xs b h.1)
 
-origin_given : (from : Origin) (b : Blocks) → IsOldOrigin b.bufs from → AreGiven (origin_scope from) b
+pub origin_given : (from : Origin) (b : Blocks) → IsOldOrigin b.bufs from → AreGiven (origin_scope from) b
 origin_given (origin.Buffer (buf.Local k)) b h = record { ints = omega arith; bufs = omega (arith, h) }
 origin_given (origin.Buffer (buf.Global k)) b h = record { ints = omega arith; bufs = omega arith }
 origin_given (origin.Table k) b h = record { ints = omega arith; bufs = omega arith }
